@@ -1,0 +1,16 @@
+-- Numbers in two's complement.
+-- Assumes nothing.
+use mathlib.Core.Bool.{Bool, cond}
+use Prim.Native.Nat.{ℕ, suc, _+_, _-_}
+use lib.Dec.{ltb}
+use lib.IntN.{ℤ, pos, negsuc}
+use mir.Val.{ofZ}
+use mir.Syntax.{w16}
+
+-- the number that raw bits stand for, where half is the weight of the sign: 512 for ten bits
+abbrev pub signed : ℕ → ℕ → ℤ
+signed half n = cond (ltb n half) (pos n) (negsuc (half + half - suc n))
+
+-- the sixteen bits of a number
+abbrev pub bits : ℤ → ℕ
+bits z = ofZ w16 z

@@ -1,0 +1,53 @@
+// The number of one of the sixteen registers.
+ghost use mathlib.Core.Path.{_≡_};
+ghost use Prim.Native.Nat.{_/_, _%_, _<_, _≤_};
+ghost use Rattle.std.specs.Options.{Cases as BySome};
+use crate::bits::high_nibble;
+use crate::bits::low_nibble;
+
+#[derive(Clone, Copy)]
+pub struct RegisterNumber {
+    number: u8,
+    ghost small: { number < 16 },
+}
+
+impl RegisterNumber {
+    // The register with a number, if it is at most 15.
+    pub fn new(number: u8) -> Option<RegisterNumber>
+        ensures { λ r. ⌜ BySome r (16 ≤ number) (λ x. x .number ≡ number) ⌝ }
+    {
+        if number > 15 {
+            return None;
+        }
+        Some(RegisterNumber { number })
+    }
+
+    // 0 to 15.
+    pub fn number(self) -> u8
+        ensures is { λ r. ⌜ r ≡ self .number ⌝ }
+        ensures small { λ r. ⌜ r < 16 ⌝ }
+    {
+        self.number
+    }
+
+    // x0, which also stands where a record has no register.
+    pub(crate) fn zero() -> RegisterNumber
+        ensures { λ r. ⌜ r .number ≡ 0 ⌝ }
+    {
+        RegisterNumber { number: 0 }
+    }
+
+    // The register in the low four bits of a byte.
+    pub(crate) fn in_low_nibble(byte: u8) -> RegisterNumber
+        ensures { λ r. ⌜ r .number ≡ byte % 16 ⌝ }
+    {
+        RegisterNumber { number: low_nibble(byte) }
+    }
+
+    // The register in the high four bits of a byte.
+    pub(crate) fn in_high_nibble(byte: u8) -> RegisterNumber
+        ensures { λ r. ⌜ r .number ≡ byte / 16 ⌝ }
+    {
+        RegisterNumber { number: high_nibble(byte) }
+    }
+}

@@ -1,4 +1,9 @@
 pub mod Bits
+pub mod Codec
 pub mod Formats
+pub mod Instructions
 pub mod Kinds
+pub mod Layouts
 pub mod Opcodes
+pub mod Records
+pub mod Refusals

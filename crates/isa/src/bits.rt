@@ -33,14 +33,16 @@ pub(crate) fn nibbles(low: u8, high: u8) -> u8
 
 // The first byte of a code of six bits, with two bits above it.
 pub(crate) fn above_six(above: u8, code: u8) -> u8
-    ensures { λ r. ⌜ r ≡ above % 4 * 64 + code % 64 ⌝ }
+    requires { ⌜ code < 64 ⌝ }
+    ensures { λ r. ⌜ r ≡ above % 4 * 64 + code ⌝ }
 {
     (above << 6) | (code & 0x3F)
 }
 
 // The first byte of a code of five bits, with three bits above it.
 pub(crate) fn above_five(above: u8, code: u8) -> u8
-    ensures { λ r. ⌜ r ≡ above % 8 * 32 + code % 32 ⌝ }
+    requires { ⌜ code < 32 ⌝ }
+    ensures { λ r. ⌜ r ≡ above % 8 * 32 + code ⌝ }
 {
     (above << 5) | (code & 0x1F)
 }

@@ -7,3 +7,4 @@ pub mod Layouts
 pub mod Opcodes
 pub mod Records
 pub mod Refusals
+pub mod Texts

@@ -9,3 +9,4 @@ pub mod operands;
 pub mod record;
 pub mod refusal;
 pub mod register;
+pub mod text;

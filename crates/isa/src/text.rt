@@ -1,0 +1,39 @@
+// The assembler text of a record: the name, and the operands with a comma and a blank between them.
+ghost use Rattle.std.specs.declared.option.Option.the-variants.{Some};
+ghost use Rattle.isa.specs.Records.{meaning};
+ghost use Rattle.isa.specs.Texts.{register-text, text};
+use crate::format::Format;
+use crate::record::Record;
+use crate::register::RegisterNumber;
+use std::fmt;
+
+pub impl fmt::Display for RegisterNumber as RegisterNumberDisplay {
+    ghost shown = { λ x. Some (register-text (x .number)) };
+
+    fn fmt<W: fmt::Write>(&self, f: &mut fmt::Formatter<W>) -> fmt::Result {
+        let number = self.number();
+        write!(f, "x{number}")
+    }
+}
+
+pub impl fmt::Display for Record as RecordDisplay {
+    ghost shown = { λ x. Some (text (meaning x)) };
+
+    fn fmt<W: fmt::Write>(&self, f: &mut fmt::Formatter<W>) -> fmt::Result {
+        let kind = self.kind();
+        let name = kind.name();
+        let (a, b, c) = (self.a(), self.b(), self.c());
+        let imm = self.imm();
+        match kind.format() {
+            Format::RegRegReg => write!(f, "{name} {a}, {b}, {c}"),
+            Format::RegRegShift | Format::RegRegImm | Format::Branch => write!(f, "{name} {a}, {b}, {imm}"),
+            Format::Memory => write!(f, "{name} {a}, {imm}({b})"),
+            Format::RegReg => write!(f, "{name} {a}, {b}"),
+            Format::RegLongImm | Format::RegImm | Format::RegShift => write!(f, "{name} {a}, {imm}"),
+            Format::Reg => write!(f, "{name} {a}"),
+            Format::Jump => write!(f, "{name} {imm}"),
+            Format::Stack => write!(f, "{name} {a}, {imm}(x1)"),
+            Format::Bare => write!(f, "{name}"),
+        }
+    }
+}

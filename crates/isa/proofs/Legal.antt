@@ -5,6 +5,7 @@ use Prim.Native.Nat.{ℕ, _+_, _*_, _/_, _%_, _^_, _-_, _<_}
 use native.Mathlib.Omega.{arith}
 use lib.Dec.{ltb, eqb}
 use lib.IntN.{ℤ, pos}
+use Rattle.std.proofs.shelf.Tests.{ltb-true}
 use Rattle.std.proofs.shelf.Ways.{tells}
 use Rattle.std.specs.declared.option.Option.the-variants.{Some, None}
 use Rattle.std.specs.declared.result.Result.{Result}
@@ -30,21 +31,41 @@ pub at-only : (P : Fields → Type 0) (b : Bool) (y x : Fields) → only b y ≡
 at-only P true y x e h = at-some P y x e (h refl)
 at-only P false y x e h = let z : _≡_ {A = ℕ} 0 1 = cc in absurd (omega arith)
 
-pub read-legal : (f : Format) (u h t : ℕ) (x : Fields) → u < 2 ^ (8 - code-width f) → h < 256 → t < 256 → read f u h t ≡ Some x → Lawful f x
+-- registers below 16, and what the format asks
+pub record Good (f : Format) (x : Fields) : Type 0 where
+  pub a : x .a < 16
+  pub b : x .b < 16
+  pub c : x .c < 16
+  pub legal : Lawful f x
+
+pub read-good : (f : Format) (u h t : ℕ) (x : Fields) → u < 2 ^ (8 - code-width f) → h < 256 → t < 256 → read f u h t ≡ Some x → Good f x
 unfolding legal
-read-legal RegRegReg u h t x p q r e = at-only (Lawful RegRegReg) (ltb t 16) (fields (h % 16) (h / 16) t (pos 0)) x e (λ b. grind (arith, tells))
-read-legal RegRegShift u h t x p q r e = at-only (Lawful RegRegShift) (ltb t 16) (fields (h % 16) (h / 16) 0 (pos t)) x e (λ b. grind (arith, tells))
-read-legal RegRegImm u h t x p q r e = at-some (Lawful RegRegImm) (fields (h % 16) (h / 16) 0 (signed 512 (u * 256 + t))) x e (grind (arith, tells))
-read-legal RegLongImm u h t x p q r e = at-only (Lawful RegLongImm) (ltb h 16) (fields (h % 16) 0 0 (signed 512 (u * 256 + t))) x e (λ b. grind (arith, tells))
-read-legal Branch u h t x p q r e = at-some (Lawful Branch) (fields (h / 16) (h % 16) 0 (signed 512 (u * 256 + t))) x e (grind (arith, tells))
-read-legal Memory u h t x p q r e = at-some (Lawful Memory) (fields (h % 16) (h / 16) 0 (signed 512 (u * 256 + t))) x e (grind (arith, tells))
-read-legal RegReg u h t x p q r e = at-some (Lawful RegReg) (fields (h % 16) (h / 16) 0 (pos 0)) x e (grind (arith, tells))
-read-legal RegImm u h t x p q r e = at-some (Lawful RegImm) (fields (h % 16) 0 0 (signed 32 (u * 16 + h / 16))) x e (grind (arith, tells))
-read-legal RegShift u h t x p q r e = at-some (Lawful RegShift) (fields (h % 16) 0 0 (pos (h / 16))) x e (grind (arith, tells))
-read-legal Reg u h t x p q r e = at-only (Lawful Reg) (ltb h 16) (fields (h % 16) 0 0 (pos 0)) x e (λ b. grind (arith, tells))
-read-legal Jump u h t x p q r e = at-some (Lawful Jump) (fields 0 0 0 (signed 1024 (h * 8 + u))) x e (grind (arith, tells))
-read-legal Stack u h t x p q r e = at-some (Lawful Stack) (fields (h % 16) 0 0 (pos ((u * 16 + h / 16) * 2))) x e (grind (arith, tells))
-read-legal Bare u h t x p q r e = at-only (Lawful Bare) (eqb h 0) (fields 0 0 0 (pos 0)) x e (λ b. refl)
+read-good RegRegReg u h t x p q r e =
+    at-only (Good RegRegReg) (ltb t 16) (fields (h % 16) (h / 16) t (pos 0)) x e (λ d. record { a = omega arith; b = omega arith; c = omega (arith, ltb-true t 16 d); legal = grind (arith, tells) })
+read-good RegRegShift u h t x p q r e =
+    at-only (Good RegRegShift) (ltb t 16) (fields (h % 16) (h / 16) 0 (pos t)) x e (λ d. record { a = omega arith; b = omega arith; c = omega arith; legal = grind (arith, tells) })
+read-good RegRegImm u h t x p q r e =
+    at-some (Good RegRegImm) (fields (h % 16) (h / 16) 0 (signed 512 (u * 256 + t))) x e (record { a = omega arith; b = omega arith; c = omega arith; legal = grind (arith, tells) })
+read-good RegLongImm u h t x p q r e =
+    at-only (Good RegLongImm) (ltb h 16) (fields (h % 16) 0 0 (signed 512 (u * 256 + t))) x e (λ d. record { a = omega arith; b = omega arith; c = omega arith; legal = grind (arith, tells) })
+read-good Branch u h t x p q r e =
+    at-some (Good Branch) (fields (h / 16) (h % 16) 0 (signed 512 (u * 256 + t))) x e (record { a = omega arith; b = omega arith; c = omega arith; legal = grind (arith, tells) })
+read-good Memory u h t x p q r e =
+    at-some (Good Memory) (fields (h % 16) (h / 16) 0 (signed 512 (u * 256 + t))) x e (record { a = omega arith; b = omega arith; c = omega arith; legal = grind (arith, tells) })
+read-good RegReg u h t x p q r e =
+    at-some (Good RegReg) (fields (h % 16) (h / 16) 0 (pos 0)) x e (record { a = omega arith; b = omega arith; c = omega arith; legal = grind (arith, tells) })
+read-good RegImm u h t x p q r e =
+    at-some (Good RegImm) (fields (h % 16) 0 0 (signed 32 (u * 16 + h / 16))) x e (record { a = omega arith; b = omega arith; c = omega arith; legal = grind (arith, tells) })
+read-good RegShift u h t x p q r e =
+    at-some (Good RegShift) (fields (h % 16) 0 0 (pos (h / 16))) x e (record { a = omega arith; b = omega arith; c = omega arith; legal = grind (arith, tells) })
+read-good Reg u h t x p q r e =
+    at-only (Good Reg) (ltb h 16) (fields (h % 16) 0 0 (pos 0)) x e (λ d. record { a = omega arith; b = omega arith; c = omega arith; legal = grind (arith, tells) })
+read-good Jump u h t x p q r e =
+    at-some (Good Jump) (fields 0 0 0 (signed 1024 (h * 8 + u))) x e (record { a = omega arith; b = omega arith; c = omega arith; legal = grind (arith, tells) })
+read-good Stack u h t x p q r e =
+    at-some (Good Stack) (fields (h % 16) 0 0 (pos ((u * 16 + h / 16) * 2))) x e (record { a = omega arith; b = omega arith; c = omega arith; legal = grind (arith, tells) })
+read-good Bare u h t x p q r e =
+    at-only (Good Bare) (eqb h 0) (fields 0 0 0 (pos 0)) x e (λ d. record { a = omega arith; b = omega arith; c = omega arith; legal = grind (arith, tells) })
 
 -- four tests in a row that end in an answer were all passed
 all-passed : (p q r s : Bool) (d e f g : RecordError) (y x : Fields) → cond p (cond q (cond r (cond s (Ok y) (Err d)) (Err e)) (Err f)) (Err g) ≡ Ok x → (y ≡ x) × ((q && (r && s)) ≡ true)

@@ -3,6 +3,7 @@ pub mod Codec
 pub mod Formats
 pub mod Instructions
 pub mod Kinds
+pub mod Laws
 pub mod Layouts
 pub mod Opcodes
 pub mod Records

@@ -6,12 +6,12 @@ use Rattle.std.specs.Options.{mapped}
 use Rattle.isa.specs.declared.format.Format.{Format}
 use Rattle.isa.specs.declared.operands.Operands.{Operands}
 use Rattle.isa.specs.Instructions.{values}
-use Rattle.isa.proofs.Legal.{Lawful, read-legal}
+use Rattle.isa.proofs.Legal.{Lawful, read-good}
 use Rattle.isa.proofs.Widths.{above-lt}
 use Rattle.isa.proofs.record.codec.held.Needs as need
 
 pub ghost-result : need.ghost-result
 ghost-result c =
     let x : Operands = c .in-Continue-operands .operands in
-    let good : Lawful (c .format .result) (values x) = read-legal (c .format .result) _ (c .args .high) (c .args .top) (values x) (above-lt (c .format .result) (c .args .low) (omega arith)) (omega arith) (omega arith) (sym (c .read .ensures) ∙ ap (mapped values) (c .in-Continue-operands .was tt)) in
+    let good : Lawful (c .format .result) (values x) = read-good (c .format .result) _ (c .args .high) (c .args .top) (values x) (above-lt (c .format .result) (c .args .low) (omega arith)) (omega arith) (omega arith) (sym (c .read .ensures) ∙ ap (mapped values) (c .in-Continue-operands .was tt)) .legal in
     (subst (λ (f : Format). Lawful f (values x)) (c .format .ensures) good, tt)

@@ -1,0 +1,154 @@
+-- Decoding undoes encoding, and encoding undoes decoding. Assumes nothing.
+use mathlib.Core.Path.{_≡_, refl, sym, subst, _∙_, ap}
+use mathlib.Core.Bool.{Bool, true, false, cond}
+use mathlib.Core.List.{List, [], _∷_, _++_}
+use Prim.Native.Nat.{ℕ, _+_, _-_, _*_, _/_, _%_, _^_, _<_}
+use native.Mathlib.Omega.{arith}
+use lib.Dec.{eqb}
+use lib.ListN.{getD}
+use Rattle.std.proofs.shelf.Tests.{cond-true, cond-false}
+use Rattle.std.specs.declared.option.Option.{Option}
+use Rattle.std.specs.declared.option.Option.the-variants.{Some, None}
+use Rattle.std.specs.declared.result.Result.{Result}
+use Rattle.std.specs.declared.result.Result.the-variants.{Ok, Err}
+use Rattle.isa.specs.declared.format.Format.{Format}
+use Rattle.isa.specs.declared.format.Format.the-variants.{RegRegReg, RegRegShift, RegRegImm, RegLongImm, Branch, Memory, RegReg, RegImm, RegShift, Reg, Jump, Stack, Bare}
+use Rattle.isa.specs.declared.image.Image.the-variants.{Two, Three}
+use Rattle.isa.specs.declared.kind.Kind.{Kind}
+use Rattle.isa.specs.declared.refusal.DecodeError.{DecodeError}
+use Rattle.isa.specs.declared.refusal.DecodeError.the-variants.{Empty, CutShort, Undefined}
+use Rattle.isa.specs.Codec.{Cut, cut, split, with-fields, of-kind, held, held-in, Decoded, gives, answered, decoded-from, decoded, encoded}
+use Rattle.isa.specs.Formats.{code-width}
+use Rattle.isa.specs.Instructions.{Fields, Instruction, instruction, Sound}
+use Rattle.isa.specs.Kinds.{code, format}
+use Rattle.isa.specs.Laws.{Bytes, Decoding-undoes-encoding, Encoding-undoes-decoding, Decoding-examples}
+use Rattle.isa.specs.Layouts.{read, Layout, layout, bytes-of}
+use Rattle.isa.specs.Opcodes.{named}
+use Rattle.isa.proofs.Legal.{Good, read-good}
+use Rattle.isa.proofs.Named.{long, code-of, named-by, code-lt, length-told, first-byte-mod, first-byte-div, first-byte-lt, first-byte-whole}
+use Rattle.isa.proofs.Redo.{following, laid-as, redo}
+use Rattle.isa.proofs.Undo.{Undone, undo}
+use Rattle.isa.proofs.Widths.{above-lt}
+
+-- bytes whose first tells their number are the first instruction, whatever follows
+first-of : (b : Bool) (low h t : ℕ) (rest : List ℕ) (x : Instruction) → eqb (low % 2) 1 ≡ b → (b ≡ false → t ≡ 0) → held low h t ≡ Some x → decoded (low ∷ following b h t ++ rest) ≡ gives (Ok x) rest
+first-of true low h t rest x e z d =
+    let s : List ℕ = low ∷ h ∷ t ∷ rest in
+    ap (decoded-from s) (cond-true (eqb (low % 2) 1) (Ok (cut (Three low h t) rest)) (Ok (cut (Two low h) (t ∷ rest))) e) ∙ ap (λ (o : Option Instruction). answered s o rest) d
+first-of false low h t [] x e z d =
+    let s : List ℕ = low ∷ h ∷ [] in
+    ap (decoded-from s) (cond-false (eqb (low % 2) 1) (Err CutShort) (Ok (cut (Two low h) [])) e) ∙ ap (λ (o : Option Instruction). answered s o []) (ap (held low h) (sym (z refl)) ∙ d)
+first-of false low h t (n ∷ rest) x e z d =
+    let s : List ℕ = low ∷ h ∷ n ∷ rest in
+    ap (decoded-from s) (cond-false (eqb (low % 2) 1) (Ok (cut (Three low h n) rest)) (Ok (cut (Two low h) (n ∷ rest))) e) ∙ ap (λ (o : Option Instruction). answered s o (n ∷ rest)) (ap (held low h) (sym (z refl)) ∙ d)
+
+-- what follows the first byte, by its parts
+pub record Followed (f : Format) (x : Fields) : Type 0 where
+  rest : layout f x .rest ≡ following (long f) (getD (layout f x .rest) 0 0) (getD (layout f x .rest) 1 0)
+  none : long f ≡ false → getD (layout f x .rest) 1 0 ≡ 0
+
+followed : (f : Format) (x : Fields) → Followed f x
+followed RegRegReg x = record { rest = refl; none = λ e. let z : _≡_ {A = ℕ} 0 1 = cc in absurd (omega arith) }
+followed RegRegShift x = record { rest = refl; none = λ e. let z : _≡_ {A = ℕ} 0 1 = cc in absurd (omega arith) }
+followed RegRegImm x = record { rest = refl; none = λ e. let z : _≡_ {A = ℕ} 0 1 = cc in absurd (omega arith) }
+followed RegLongImm x = record { rest = refl; none = λ e. let z : _≡_ {A = ℕ} 0 1 = cc in absurd (omega arith) }
+followed Branch x = record { rest = refl; none = λ e. let z : _≡_ {A = ℕ} 0 1 = cc in absurd (omega arith) }
+followed Memory x = record { rest = refl; none = λ e. let z : _≡_ {A = ℕ} 0 1 = cc in absurd (omega arith) }
+followed RegReg x = record { rest = refl; none = λ _. refl }
+followed RegImm x = record { rest = refl; none = λ _. refl }
+followed RegShift x = record { rest = refl; none = λ _. refl }
+followed Reg x = record { rest = refl; none = λ _. refl }
+followed Jump x = record { rest = refl; none = λ _. refl }
+followed Stack x = record { rest = refl; none = λ _. refl }
+followed Bare x = record { rest = refl; none = λ _. refl }
+
+pub undoes : Decoding-undoes-encoding
+undoes x s rest =
+    let k = x .kind in
+    let f = format k in
+    let l = layout f (x .fields) in
+    let u = undo f (x .fields) (record { a = s .a; b = s .b; c = s .c; legal = s .legal }) in
+    let low : ℕ = l .above * 2 ^ code-width f + code k in
+    let small = code-lt k in
+    let is : low % 2 ^ code-width f ≡ code k = first-byte-mod f (l .above) (code k) small in
+    let it : named low ≡ Some k = named-by low (first-byte-lt f (l .above) (code k) (u .above) small) k is in
+    let above : low / 2 ^ code-width f ≡ l .above = first-byte-div f (l .above) (code k) small in
+    let h : ℕ = getD (l .rest) 0 0 in
+    let t : ℕ = getD (l .rest) 1 0 in
+    let found : held low h t ≡ Some x =
+        ap (λ (o : Option Kind). of-kind o low h t) it ∙ ap (with-fields k) (ap (λ (n : ℕ). read f n h t) above ∙ u .back) in
+    ap (λ (r : List ℕ). decoded (low ∷ r ++ rest)) (followed f (x .fields) .rest)
+    ∙ first-of (long f) low h t rest x (length-told low k is) (followed f (x .fields) .none) found
+
+-- the other way: what bytes hold has a kind, and fields that its format reads
+held-parts : (low h t : ℕ) (x : Instruction) (P : Instruction → Type 0) → held low h t ≡ Some x → ((k : Kind) (y : Fields) → named low ≡ Some k → read (format k) (low / 2 ^ code-width (format k)) h t ≡ Some y → P (instruction k y)) → P x
+held-parts low h t x P e go =
+    elim (named low) as (λ o. named low ≡ o → of-kind o low h t ≡ Some x → P x)
+    [ None ↦ λ n d. let z : _≡_ {A = ℕ} 0 1 = cc in absurd (omega arith)
+    | Some k ↦ λ n d.
+        elim (read (format k) (low / 2 ^ code-width (format k)) h t) as (λ r. read (format k) (low / 2 ^ code-width (format k)) h t ≡ r → with-fields k r ≡ Some x → P x)
+        [ None ↦ λ r c. let z : _≡_ {A = ℕ} 0 1 = cc in absurd (omega arith)
+        | Some y ↦ λ r c. let q : instruction k y ≡ x = cc in subst P q (go k y n r) ] refl d ] refl e
+
+-- an instruction that bytes hold is sound, and is encoded as those bytes
+abbrev Again : ℕ → ℕ → ℕ → Instruction → Type 0
+Again low h t x = Sound x × (encoded x ≡ low ∷ following (eqb (low % 2) 1) h t)
+
+again : (low h t : ℕ) (x : Instruction) → low < 256 → h < 256 → t < 256 → held low h t ≡ Some x → Again low h t x
+again low h t x p q r e =
+    held-parts low h t x (Again low h t) e
+    (λ k y n d.
+        let f = format k in
+        let u : ℕ = low / 2 ^ code-width f in
+        let lt = above-lt f low p in
+        let is = code-of low k n in
+        let g = read-good f u h t y lt q r d in
+        (record { a = g .a; b = g .b; c = g .c; legal = g .legal },
+            ap (bytes-of f (code k)) (redo f u h t y lt q r d)
+            ∙ ap (λ (b : ℕ). b ∷ following (long f) h t) (ap (λ (o : ℕ). u * 2 ^ code-width f + o) (sym is) ∙ first-byte-whole f low)
+            ∙ ap (λ (b : Bool). low ∷ following b h t) (sym (length-told low k is))))
+
+answered-ok : (s : List ℕ) (o : Option Instruction) (r : List ℕ) (x : Instruction) (rest : List ℕ) → answered s o r ≡ gives (Ok x) rest → (o ≡ Some x) × (r ≡ rest)
+answered-ok s None r x rest e =
+    let d : Err Undefined ≡ Ok x = ap (λ (v : Decoded). v .answer) e in
+    let z : _≡_ {A = ℕ} 0 1 = cc in
+    absurd (omega arith)
+answered-ok s (Some y) r x rest e =
+    let d : Ok y ≡ Ok x = ap (λ (v : Decoded). v .answer) e in (cc, ap (λ (v : Decoded). v .rest) e)
+
+never : (s : List ℕ) (e : DecodeError) (x : Instruction) (rest : List ℕ) → gives (Err e) s ≡ gives (Ok x) rest → ⊥
+never s e x rest h =
+    let d : Err e ≡ Ok x = ap (λ (v : Decoded). v .answer) h in
+    let z : _≡_ {A = ℕ} 0 1 = cc in
+    omega arith
+
+-- the instruction's bytes and the rest are the string
+abbrev Whole : List ℕ → Instruction → List ℕ → Type 0
+Whole s x rest = Sound x × (encoded x ++ rest ≡ s)
+
+whole : (b : Bool) (low h t : ℕ) (r s : List ℕ) (x : Instruction) (rest : List ℕ) → low < 256 → h < 256 → t < 256 → eqb (low % 2) 1 ≡ b → answered s (held low h t) r ≡ gives (Ok x) rest → low ∷ following b h t ++ r ≡ s → Whole s x rest
+whole b low h t r s x rest p q v e d w =
+    let a = answered-ok s (held low h t) r x rest d in
+    let g = again low h t x p q v (a .0) in
+    (g .0,
+        ap (λ (l : List ℕ). l ++ rest) (g .1 ∙ ap (λ (c : Bool). low ∷ following c h t) e)
+        ∙ ap (λ (l : List ℕ). low ∷ following b h t ++ l) (sym (a .1))
+        ∙ w)
+
+pub redoes : Encoding-undoes-decoding
+redoes [] b x rest e = absurd (never [] Empty x rest e)
+redoes (low ∷ []) b x rest e = absurd (never (low ∷ []) CutShort x rest e)
+redoes (low ∷ h ∷ []) b x rest e =
+    let s : List ℕ = low ∷ h ∷ [] in
+    elim (eqb (low % 2) 1) as (λ v. eqb (low % 2) 1 ≡ v → decoded-from s (cond v (Err CutShort) (Ok (cut (Two low h) []))) ≡ gives (Ok x) rest → Whole s x rest)
+    [ true ↦ λ p d. absurd (never s CutShort x rest d)
+    | false ↦ λ p d. whole false low h 0 [] s x rest (b .0) (b .1 .0) (omega arith) p d refl ] refl e
+redoes (low ∷ h ∷ t ∷ r) b x rest e =
+    let s : List ℕ = low ∷ h ∷ t ∷ r in
+    elim (eqb (low % 2) 1) as (λ v. eqb (low % 2) 1 ≡ v → decoded-from s (cond v (Ok (cut (Three low h t) r)) (Ok (cut (Two low h) (t ∷ r)))) ≡ gives (Ok x) rest → Whole s x rest)
+    [ true ↦ λ p d. whole true low h t r s x rest (b .0) (b .1 .0) (b .1 .1 .0) p d refl
+    | false ↦ λ p d. whole false low h 0 (t ∷ r) s x rest (b .0) (b .1 .0) (omega arith) p d refl ] refl e
+
+pub examples : Decoding-examples
+unfolding named
+examples = (refl, refl, refl, refl, refl, refl, refl, refl, refl, refl, refl)

@@ -7,5 +7,6 @@ pub mod Numbered
 pub mod Redo
 pub mod Round
 pub mod Splits
+pub mod Trips
 pub mod Undo
 pub mod Widths

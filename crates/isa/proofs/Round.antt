@@ -32,6 +32,7 @@ use Rattle.isa.proofs.Widths.{above-lt}
 
 -- bytes whose first tells their number are the first instruction, whatever follows
 first-of : (b : Bool) (low h t : ℕ) (rest : List ℕ) (x : Instruction) → eqb (low % 2) 1 ≡ b → (b ≡ false → t ≡ 0) → held low h t ≡ Some x → decoded (low ∷ following b h t ++ rest) ≡ gives (Ok x) rest
+unfolding decoded
 first-of true low h t rest x e z d =
     let s : List ℕ = low ∷ h ∷ t ∷ rest in
     ap (decoded-from s) (cond-true (eqb (low % 2) 1) (Ok (cut (Three low h t) rest)) (Ok (cut (Two low h) (t ∷ rest))) e) ∙ ap (λ (o : Option Instruction). answered s o rest) d
@@ -63,6 +64,7 @@ followed Stack x = record { rest = refl; none = λ _. refl }
 followed Bare x = record { rest = refl; none = λ _. refl }
 
 pub undoes : Decoding-undoes-encoding
+unfolding encoded
 undoes x s rest =
     let k = x .kind in
     let f = format k in
@@ -95,6 +97,7 @@ abbrev Again : ℕ → ℕ → ℕ → Instruction → Type 0
 Again low h t x = Sound x × (encoded x ≡ low ∷ following (eqb (low % 2) 1) h t)
 
 again : (low h t : ℕ) (x : Instruction) → low < 256 → h < 256 → t < 256 → held low h t ≡ Some x → Again low h t x
+unfolding encoded
 again low h t x p q r e =
     held-parts low h t x (Again low h t) e
     (λ k y n d.
@@ -136,6 +139,7 @@ whole b low h t r s x rest p q v e d w =
         ∙ w)
 
 pub redoes : Encoding-undoes-decoding
+unfolding decoded
 redoes [] b x rest e = absurd (never [] Empty x rest e)
 redoes (low ∷ []) b x rest e = absurd (never (low ∷ []) CutShort x rest e)
 redoes (low ∷ h ∷ []) b x rest e =
@@ -150,5 +154,5 @@ redoes (low ∷ h ∷ t ∷ r) b x rest e =
     | false ↦ λ p d. whole false low h 0 (t ∷ r) s x rest (b .0) (b .1 .0) (omega arith) p d refl ] refl e
 
 pub examples : Decoding-examples
-unfolding named
+unfolding named decoded
 examples = (refl, refl, refl, refl, refl, refl, refl, refl, refl, refl, refl)

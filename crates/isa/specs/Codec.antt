@@ -70,14 +70,14 @@ decoded-from s (Err e) = gives (Err e) s
 decoded-from s (Ok c) = answered s (held-in (c .image)) (c .rest)
 
 -- a refusal leaves the whole string
-abbrev pub decoded : List ℕ → Decoded
+unfoldable pub decoded : List ℕ → Decoded
 decoded s = decoded-from s (split s)
 
 abbrev pub image-bytes : Image → List ℕ
 image-bytes (Two low high) = low ∷ high ∷ []
 image-bytes (Three low high top) = low ∷ high ∷ top ∷ []
 
-abbrev pub encoded : Instruction → List ℕ
+unfoldable pub encoded : Instruction → List ℕ
 encoded x = bytes-of (format (x .kind)) (code (x .kind)) (layout (format (x .kind)) (x .fields))
 
 -- bytes laid at the start of a buffer: the answer, and the buffer after; without room nothing is written

@@ -8,4 +8,5 @@ pub mod Layouts
 pub mod Opcodes
 pub mod Records
 pub mod Refusals
+pub mod RoundTrips
 pub mod Texts

@@ -9,6 +9,8 @@ use Rattle.isa.specs.declared.refusal.DecodeError.{DecodeError}
 use Rattle.isa.specs.declared.refusal.DecodeError.the-variants.{Empty, CutShort, Undefined}
 use Rattle.isa.specs.declared.refusal.EncodeError.{EncodeError}
 use Rattle.isa.specs.declared.refusal.EncodeError.the-variants.{NoRoom}
+use Rattle.isa.specs.declared.refusal.CodecError.{CodecError}
+use Rattle.isa.specs.declared.refusal.CodecError.the-variants.{Decode, Encode}
 
 abbrev pub record-number : RecordError → ℕ
 record-number UnknownKind = 24
@@ -29,3 +31,7 @@ decode-message Undefined = codes "undefined instruction"
 
 abbrev pub encode-number : EncodeError → ℕ
 encode-number NoRoom = 61
+
+abbrev pub codec-number : CodecError → ℕ
+codec-number (Decode e) = decode-number e
+codec-number (Encode e) = encode-number e

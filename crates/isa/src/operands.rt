@@ -1,7 +1,9 @@
 // What an instruction holds besides its kind.
 use crate::register::RegisterNumber;
+use crate::register::RegisterNumberDebug;
+use crate::register::RegisterNumberPartialEq;
 
-#[derive(Clone, Copy)]
+#[derive(Clone, Copy, PartialEq, Eq, Debug)]
 pub struct Operands {
     pub a: RegisterNumber,
     pub b: RegisterNumber,

@@ -2,12 +2,16 @@
 ghost use Rattle.isa.specs.Instructions.{Legal};
 use crate::kind::Kind;
 use crate::operands::Operands;
+use crate::kind::KindDebug;
+use crate::kind::KindPartialEq;
+use crate::operands::OperandsDebug;
+use crate::operands::OperandsPartialEq;
 
 pub mod codec;
 pub mod make;
 pub mod parts;
 
-#[derive(Clone, Copy)]
+#[derive(Clone, Copy, PartialEq, Eq, Debug)]
 pub struct Record {
     kind: Kind,
     operands: Operands,

@@ -1,6 +1,7 @@
 // The refusals. specs/Refusals.antt has the number of each.
 ghost use mathlib.Core.Path.{_≡_};
-ghost use Rattle.isa.specs.Refusals.{record-number, decode-number, decode-message, encode-number};
+ghost use Rattle.isa.specs.declared.refusal.CodecError.the-variants.{Decode, Encode};
+ghost use Rattle.isa.specs.Refusals.{record-number, decode-number, decode-message, encode-number, codec-number};
 
 // Why no record is made.
 #[derive(Clone, Copy, PartialEq, Eq, Debug)]
@@ -24,6 +25,29 @@ pub enum DecodeError {
 #[derive(Clone, Copy, PartialEq, Eq, Debug)]
 pub enum EncodeError {
     NoRoom,
+}
+
+// Why bytes are not decoded and encoded again.
+#[derive(Clone, Copy, PartialEq, Eq, Debug)]
+pub enum CodecError {
+    Decode(DecodeError),
+    Encode(EncodeError),
+}
+
+pub impl From<DecodeError> for CodecError as CodecErrorFromDecode {
+    ghost converts = { λ e r. r ≡ Decode e };
+
+    fn from(e: DecodeError) -> CodecError {
+        CodecError::Decode(e)
+    }
+}
+
+pub impl From<EncodeError> for CodecError as CodecErrorFromEncode {
+    ghost converts = { λ e r. r ≡ Encode e };
+
+    fn from(e: EncodeError) -> CodecError {
+        CodecError::Encode(e)
+    }
 }
 
 impl RecordError {
@@ -69,6 +93,17 @@ impl EncodeError {
     {
         match self {
             EncodeError::NoRoom => 61,
+        }
+    }
+}
+
+impl CodecError {
+    pub fn number(self) -> u8
+        ensures { λ r. ⌜ r ≡ codec-number self ⌝ }
+    {
+        match self {
+            CodecError::Decode(e) => e.number(),
+            CodecError::Encode(e) => e.number(),
         }
     }
 }

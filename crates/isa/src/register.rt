@@ -5,7 +5,7 @@ ghost use Rattle.std.specs.Options.{Cases as BySome};
 use crate::bits::high_nibble;
 use crate::bits::low_nibble;
 
-#[derive(Clone, Copy)]
+#[derive(Clone, Copy, PartialEq, Eq, Debug)]
 pub struct RegisterNumber {
     number: u8,
     ghost small: { number < 16 },

@@ -6,7 +6,7 @@ ghost use lib.IntN.{pos};
 ghost use Rattle.isa.specs.Bits.{signed};
 
 // Whether a first byte begins an instruction of three bytes: bit 0 tells.
-pub fn is_long(low: u8) -> bool
+pub(crate) fn is_long(low: u8) -> bool
     ensures { λ r. ⌜ r ≡ eqb (low % 2) 1 ⌝ }
 {
     low & 1 == 1

@@ -25,10 +25,10 @@ pub enum Format {
 
 // How many of the registers a, b, c there are, and the least and the greatest immediate: 0 and 0 where there is none.
 #[derive(Clone, Copy)]
-pub struct Shape {
-    pub registers: u8,
-    pub lowest: i32,
-    pub highest: i32,
+pub(crate) struct Shape {
+    registers: u8,
+    lowest: i32,
+    highest: i32,
 }
 
 const fn shape_of(registers: u8, lowest: i32, highest: i32) -> Shape
@@ -38,7 +38,7 @@ const fn shape_of(registers: u8, lowest: i32, highest: i32) -> Shape
 }
 
 impl Format {
-    pub fn shape(self) -> Shape
+    pub(crate) fn shape(self) -> Shape
         ensures { λ r. ⌜ r ≡ shape self ⌝ }
     {
         match self {

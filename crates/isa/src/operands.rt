@@ -4,9 +4,9 @@ use crate::register::RegisterNumberDebug;
 use crate::register::RegisterNumberPartialEq;
 
 #[derive(Clone, Copy, PartialEq, Eq, Debug)]
-pub struct Operands {
-    pub a: RegisterNumber,
-    pub b: RegisterNumber,
-    pub c: RegisterNumber,
-    pub imm: i16,
+pub(crate) struct Operands {
+    pub(crate) a: RegisterNumber,
+    pub(crate) b: RegisterNumber,
+    pub(crate) c: RegisterNumber,
+    pub(crate) imm: i16,
 }

@@ -7,9 +7,9 @@ use crate::kind::KindPartialEq;
 use crate::operands::OperandsDebug;
 use crate::operands::OperandsPartialEq;
 
-pub mod codec;
-pub mod make;
-pub mod parts;
+pub(crate) mod codec;
+mod make;
+mod parts;
 
 #[derive(Clone, Copy, PartialEq, Eq, Debug)]
 pub struct Record {

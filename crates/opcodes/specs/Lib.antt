@@ -1,0 +1,4 @@
+pub mod Formats
+pub mod Kinds
+pub mod Laws
+pub mod Table

@@ -1,0 +1,3 @@
+pub mod Legal
+pub mod Masks
+pub mod Splits

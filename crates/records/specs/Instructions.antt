@@ -1,0 +1,45 @@
+-- An instruction: its kind, registers in the order of the assembler text, and an immediate.
+-- Assumes nothing.
+use mathlib.Core.Path.{_≡_}
+use mathlib.Core.Bool.{Bool, true, _&&_}
+use Prim.Native.Nat.{ℕ, _<_}
+use lib.IntN.{ℤ}
+use Rattle.opcodes.specs.declared.format.Format.{Format}
+use Rattle.opcodes.specs.declared.kind.Kind.{Kind}
+use Rattle.records.specs.declared.operands.Operands.{Operands}
+use Rattle.records.specs.Shapes.{shape, lacking-zero, in-range, even-enough}
+use Rattle.opcodes.specs.Kinds.{format}
+
+pub record Fields : Type 0 where
+  pub a : ℕ
+  pub b : ℕ
+  pub c : ℕ
+  pub imm : ℤ
+
+abbrev pub fields : ℕ → ℕ → ℕ → ℤ → Fields
+fields a b c i = record { a = a; b = b; c = c; imm = i }
+
+pub record Instruction : Type 0 where
+  pub kind : Kind
+  pub fields : Fields
+
+abbrev pub instruction : Kind → Fields → Instruction
+instruction k x = record { kind = k; fields = x }
+
+-- what the operands of a record stand for
+abbrev pub values : Operands → Fields
+values x = fields (x .a .number) (x .b .number) (x .c .number) (x .imm)
+
+-- what a format allows: lacking fields are zero, the immediate is in range, and even where it has to be
+unfoldable pub legal : Format → Fields → Bool
+legal f x = lacking-zero (shape f) (x .a) (x .b) (x .c) (x .imm) && (in-range (shape f) (x .imm) && even-enough (shape f) (x .imm))
+
+abbrev pub Legal : Kind → Operands → Type 0
+Legal k x = legal (format k) (values x) ≡ true
+
+-- an instruction that a record can stand for
+pub record Sound (x : Instruction) : Type 0 where
+  pub a : x .fields .a < 16
+  pub b : x .fields .b < 16
+  pub c : x .fields .c < 16
+  pub legal : legal (format (x .kind)) (x .fields) ≡ true

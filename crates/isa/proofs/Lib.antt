@@ -1,12 +1,4 @@
-pub mod Below
-pub mod Every
-pub mod Legal
-pub mod Masks
-pub mod Named
-pub mod Numbered
 pub mod Redo
 pub mod Round
-pub mod Splits
 pub mod Trips
 pub mod Undo
-pub mod Widths

@@ -9,14 +9,14 @@ use lib.IntN.{ℤ, pos}
 use Rattle.std.proofs.shelf.Tests.{ltb-true, eqb-true}
 use Rattle.std.proofs.shelf.Ways.{tells}
 use Rattle.std.specs.declared.option.Option.the-variants.{Some, None}
-use Rattle.isa.specs.declared.format.Format.{Format}
-use Rattle.isa.specs.declared.format.Format.the-variants.{RegRegReg, RegRegShift, RegRegImm, RegLongImm, Branch, Memory, RegReg, RegImm, RegShift, Reg, Jump, Stack, Bare}
-use Rattle.isa.specs.Bits.{signed, bits}
-use Rattle.isa.specs.Formats.{code-width}
-use Rattle.isa.specs.Instructions.{Fields, fields}
-use Rattle.isa.specs.Layouts.{read, Layout, layout}
-use Rattle.isa.proofs.Legal.{at-some, at-only}
-use Rattle.isa.proofs.Named.{long}
+use Rattle.opcodes.specs.declared.format.Format.{Format}
+use Rattle.opcodes.specs.declared.format.Format.the-variants.{RegRegReg, RegRegShift, RegRegImm, RegLongImm, Branch, Memory, RegReg, RegImm, RegShift, Reg, Jump, Stack, Bare}
+use Rattle.fields.specs.Bits.{signed, bits}
+use Rattle.opcodes.specs.Formats.{code-width}
+use Rattle.records.specs.Instructions.{Fields, fields}
+use Rattle.records.specs.Layouts.{read, Layout, layout}
+use Rattle.records.proofs.Legal.{at-some, at-only}
+use Rattle.opcodes.proofs.Named.{long}
 
 -- raw bits stand for a number whose low bits they are
 ten : (n : ℕ) → n < 1024 → bits (signed 512 n) % 1024 ≡ n

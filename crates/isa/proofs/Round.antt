@@ -11,24 +11,24 @@ use Rattle.std.specs.declared.option.Option.{Option}
 use Rattle.std.specs.declared.option.Option.the-variants.{Some, None}
 use Rattle.std.specs.declared.result.Result.{Result}
 use Rattle.std.specs.declared.result.Result.the-variants.{Ok, Err}
-use Rattle.isa.specs.declared.format.Format.{Format}
-use Rattle.isa.specs.declared.format.Format.the-variants.{RegRegReg, RegRegShift, RegRegImm, RegLongImm, Branch, Memory, RegReg, RegImm, RegShift, Reg, Jump, Stack, Bare}
-use Rattle.isa.specs.declared.image.Image.the-variants.{Two, Three}
-use Rattle.isa.specs.declared.kind.Kind.{Kind}
-use Rattle.isa.specs.declared.refusal.DecodeError.{DecodeError}
-use Rattle.isa.specs.declared.refusal.DecodeError.the-variants.{Empty, CutShort, Undefined}
-use Rattle.isa.specs.Codec.{Cut, cut, split, with-fields, of-kind, held, held-in, Decoded, gives, answered, decoded-from, decoded, encoded}
-use Rattle.isa.specs.Formats.{code-width}
-use Rattle.isa.specs.Instructions.{Fields, Instruction, instruction, Sound}
-use Rattle.isa.specs.Kinds.{code, format}
+use Rattle.opcodes.specs.declared.format.Format.{Format}
+use Rattle.opcodes.specs.declared.format.Format.the-variants.{RegRegReg, RegRegShift, RegRegImm, RegLongImm, Branch, Memory, RegReg, RegImm, RegShift, Reg, Jump, Stack, Bare}
+use Rattle.records.specs.declared.image.Image.the-variants.{Two, Three}
+use Rattle.opcodes.specs.declared.kind.Kind.{Kind}
+use Rattle.records.specs.declared.refusal.DecodeError.{DecodeError}
+use Rattle.records.specs.declared.refusal.DecodeError.the-variants.{Empty, CutShort, Undefined}
+use Rattle.records.specs.Codec.{Cut, cut, split, with-fields, of-kind, held, held-in, Decoded, gives, answered, decoded-from, decoded, encoded}
+use Rattle.opcodes.specs.Formats.{code-width}
+use Rattle.records.specs.Instructions.{Fields, Instruction, instruction, Sound}
+use Rattle.opcodes.specs.Kinds.{code, format}
 use Rattle.isa.specs.Laws.{Bytes, Decoding-undoes-encoding, Encoding-undoes-decoding, Decoding-examples}
-use Rattle.isa.specs.Layouts.{read, Layout, layout, bytes-of}
-use Rattle.isa.specs.Opcodes.{named}
-use Rattle.isa.proofs.Legal.{Good, read-good}
-use Rattle.isa.proofs.Named.{long, code-of, named-by, code-lt, length-told, first-byte-mod, first-byte-div, first-byte-lt, first-byte-whole}
+use Rattle.records.specs.Layouts.{read, Layout, layout, bytes-of}
+use Rattle.opcodes.specs.Table.{named}
+use Rattle.records.proofs.Legal.{Good, read-good}
+use Rattle.opcodes.proofs.Named.{long, code-of, named-by, code-lt, length-told, first-byte-mod, first-byte-div, first-byte-lt, first-byte-whole}
 use Rattle.isa.proofs.Redo.{following, laid-as, redo}
 use Rattle.isa.proofs.Undo.{Undone, undo}
-use Rattle.isa.proofs.Widths.{above-lt}
+use Rattle.opcodes.proofs.Widths.{above-lt}
 
 -- bytes whose first tells their number are the first instruction, whatever follows
 first-of : (b : Bool) (low h t : ℕ) (rest : List ℕ) (x : Instruction) → eqb (low % 2) 1 ≡ b → (b ≡ false → t ≡ 0) → held low h t ≡ Some x → decoded (low ∷ following b h t ++ rest) ≡ gives (Ok x) rest

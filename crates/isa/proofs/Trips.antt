@@ -12,14 +12,14 @@ use Rattle.std.specs.declared.result.Result.{Result}
 use Rattle.std.specs.declared.result.Result.the-variants.{Ok, Err}
 use Rattle.isa.specs.declared.refusal.CodecError.{CodecError}
 use Rattle.isa.specs.declared.refusal.CodecError.the-variants.{Decode}
-use Rattle.isa.specs.declared.record.Record.{Record}
-use Rattle.isa.specs.declared.refusal.DecodeError.{DecodeError}
-use Rattle.isa.specs.declared.refusal.EncodeError.{EncodeError}
-use Rattle.isa.specs.declared.refusal.EncodeError.the-variants.{NoRoom}
-use Rattle.isa.specs.Codec.{Decoded, gives, decoded, encoded, laid-answer, laid-over}
-use Rattle.isa.specs.Instructions.{Instruction, Sound}
+use Rattle.records.specs.declared.record.Record.{Record}
+use Rattle.records.specs.declared.refusal.DecodeError.{DecodeError}
+use Rattle.records.specs.declared.refusal.EncodeError.{EncodeError}
+use Rattle.records.specs.declared.refusal.EncodeError.the-variants.{NoRoom}
+use Rattle.records.specs.Codec.{Decoded, gives, decoded, encoded, laid-answer, laid-over}
+use Rattle.records.specs.Instructions.{Instruction, Sound}
 use Rattle.isa.specs.Laws.{Bytes}
-use Rattle.isa.specs.Records.{meaning}
+use Rattle.records.specs.Records.{meaning}
 use Rattle.isa.specs.RoundTrips.{through, first-bytes, as-codec, copied-answer, copied-over}
 use Rattle.isa.proofs.Round.{undoes, redoes}
 

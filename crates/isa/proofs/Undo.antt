@@ -12,14 +12,15 @@ use mir.Syntax.{w16}
 use Rattle.std.proofs.shelf.Tests.{and-parts, leb-true, eqb-true}
 use Rattle.std.proofs.shelf.Ways.{tells}
 use Rattle.std.specs.declared.option.Option.the-variants.{Some, None}
-use Rattle.isa.specs.declared.format.Format.{Format}
-use Rattle.isa.specs.declared.format.Format.the-variants.{RegRegReg, RegRegShift, RegRegImm, RegLongImm, Branch, Memory, RegReg, RegImm, RegShift, Reg, Jump, Stack, Bare}
-use Rattle.isa.specs.Bits.{signed, bits}
-use Rattle.isa.specs.Formats.{shape, lacking-zero, in-range, even, code-width}
-use Rattle.isa.specs.Instructions.{Fields, fields, legal}
-use Rattle.isa.specs.Layouts.{only, read, layout, halves}
-use Rattle.isa.proofs.Below.{below}
-use Rattle.isa.proofs.Legal.{Good}
+use Rattle.opcodes.specs.declared.format.Format.{Format}
+use Rattle.opcodes.specs.declared.format.Format.the-variants.{RegRegReg, RegRegShift, RegRegImm, RegLongImm, Branch, Memory, RegReg, RegImm, RegShift, Reg, Jump, Stack, Bare}
+use Rattle.fields.specs.Bits.{signed, bits}
+use Rattle.opcodes.specs.Formats.{code-width}
+use Rattle.records.specs.Shapes.{shape, lacking-zero, in-range, even-enough}
+use Rattle.records.specs.Instructions.{Fields, fields, legal}
+use Rattle.records.specs.Layouts.{only, read, layout, halves}
+use Rattle.opcodes.proofs.Below.{below}
+use Rattle.records.proofs.Legal.{Good}
 
 -- a number in range is what its low bits stand for
 ten : (i : ℤ) → in-range (shape RegRegImm) i ≡ true → signed 512 (bits i % 1024) ≡ i
@@ -51,13 +52,13 @@ record Facts (f : Format) (x : Fields) : Type 0 where
   c : x .c < 16
   zeros : lacking-zero (shape f) (x .a) (x .b) (x .c) (x .imm) ≡ true
   range : in-range (shape f) (x .imm) ≡ true
-  evens : even f (x .imm) ≡ true
+  evens : even-enough (shape f) (x .imm) ≡ true
 
 facts : (f : Format) (x : Fields) → Good f x → Facts f x
 unfolding legal
 facts f x g =
-    let p = and-parts (lacking-zero (shape f) (x .a) (x .b) (x .c) (x .imm)) (in-range (shape f) (x .imm) && even f (x .imm)) (g .legal) in
-    let q = and-parts (in-range (shape f) (x .imm)) (even f (x .imm)) (p .1) in
+    let p = and-parts (lacking-zero (shape f) (x .a) (x .b) (x .c) (x .imm)) (in-range (shape f) (x .imm) && even-enough (shape f) (x .imm)) (g .legal) in
+    let q = and-parts (in-range (shape f) (x .imm)) (even-enough (shape f) (x .imm)) (p .1) in
     record { a = g .a; b = g .b; c = g .c; zeros = p .0; range = q .0; evens = q .1 }
 
 same : {a a′ b b′ c c′ : ℕ} {i i′ : ℤ} → a ≡ a′ → b ≡ b′ → c ≡ c′ → i ≡ i′ → Some (fields a b c i) ≡ Some (fields a′ b′ c′ i′)

@@ -1,35 +1,15 @@
--- What holds of the definitions: the opcode table keeps its rule, decoding and encoding undo each other, and worked examples.
+-- Decoding and encoding undo each other, and worked examples of decoding.
 -- Assumes nothing.
 use mathlib.Core.Path.{_≡_}
-use mathlib.Core.List.{List, [], _∷_, _++_, map}
-use Prim.Native.Nat.{ℕ, suc, _%_, _^_, _<_}
+use mathlib.Core.List.{List, [], _∷_, _++_}
+use Prim.Native.Nat.{ℕ, _<_}
 use lib.IntN.{pos, negsuc}
-use Rattle.std.specs.Iters.{counting}
-use Rattle.std.specs.declared.option.Option.{Option}
-use Rattle.std.specs.declared.option.Option.the-variants.{Some, None}
 use Rattle.std.specs.declared.result.Result.the-variants.{Ok, Err}
-use Rattle.isa.specs.declared.kind.Kind.{Kind}
-use Rattle.isa.specs.declared.kind.Kind.the-variants.{Nop, Lsi, Addi2, Bne, Add, Lwsp}
-use Rattle.isa.specs.declared.refusal.DecodeError.{DecodeError}
-use Rattle.isa.specs.declared.refusal.DecodeError.the-variants.{Empty, CutShort, Undefined}
-use Rattle.isa.specs.Codec.{decoded, encoded, gives}
-use Rattle.isa.specs.Formats.{code-width}
-use Rattle.isa.specs.Instructions.{Instruction, instruction, fields, Sound}
-use Rattle.isa.specs.Kinds.{code, format}
-use Rattle.isa.specs.Opcodes.{named}
-
--- a first byte names a kind exactly where the kind's code stands in its low bits
-abbrev pub Table-rule : Type 0
-Table-rule =
-    (low : ℕ) → low < 256 → (k : Kind) → (named low ≡ Some k → low % 2 ^ code-width (format k) ≡ code k) × (low % 2 ^ code-width (format k) ≡ code k → named low ≡ Some k)
-
-abbrev pub count : List (Option Kind) → ℕ
-count [] = 0
-count (None ∷ os) = count os
-count (Some k ∷ os) = suc (count os)
-
-abbrev pub Table-names-130 : Type 0
-Table-names-130 = count (map named (counting 0 256)) ≡ 130
+use Rattle.opcodes.specs.declared.kind.Kind.the-variants.{Nop, Lsi, Addi2, Bne, Add, Lwsp}
+use Rattle.records.specs.declared.refusal.DecodeError.{DecodeError}
+use Rattle.records.specs.declared.refusal.DecodeError.the-variants.{Empty, CutShort, Undefined}
+use Rattle.records.specs.Codec.{decoded, encoded, gives}
+use Rattle.records.specs.Instructions.{Instruction, instruction, fields, Sound}
 
 abbrev pub Bytes : List ℕ → Type 0
 Bytes [] = Unit {0}

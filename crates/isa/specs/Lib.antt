@@ -1,12 +1,3 @@
-pub mod Bits
-pub mod Codec
-pub mod Formats
-pub mod Instructions
-pub mod Kinds
 pub mod Laws
-pub mod Layouts
-pub mod Opcodes
-pub mod Records
 pub mod Refusals
 pub mod RoundTrips
-pub mod Texts

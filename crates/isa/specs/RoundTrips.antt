@@ -7,13 +7,13 @@ use lib.Dec.{leb}
 use lib.ListN.{length, take}
 use Rattle.std.specs.declared.result.Result.{Result}
 use Rattle.std.specs.declared.result.Result.the-variants.{Ok, Err}
-use Rattle.isa.specs.declared.refusal.DecodeError.{DecodeError}
-use Rattle.isa.specs.declared.refusal.EncodeError.{EncodeError}
-use Rattle.isa.specs.declared.refusal.EncodeError.the-variants.{NoRoom}
+use Rattle.records.specs.declared.refusal.DecodeError.{DecodeError}
+use Rattle.records.specs.declared.refusal.EncodeError.{EncodeError}
+use Rattle.records.specs.declared.refusal.EncodeError.the-variants.{NoRoom}
 use Rattle.isa.specs.declared.refusal.CodecError.{CodecError}
 use Rattle.isa.specs.declared.refusal.CodecError.the-variants.{Decode, Encode}
-use Rattle.isa.specs.Codec.{decoded, encoded, laid-answer, laid-over}
-use Rattle.isa.specs.Instructions.{Instruction}
+use Rattle.records.specs.Codec.{decoded, encoded, laid-answer, laid-over}
+use Rattle.records.specs.Instructions.{Instruction}
 
 -- an instruction that goes through a buffer comes back as it was
 abbrev pub through : Instruction → List ℕ → Result Instruction EncodeError

@@ -1,15 +1,15 @@
 // Decoding undoes encoding, and encoding undoes decoding: the calls that make both.
 ghost use mathlib.Core.Path.{_≡_};
-ghost use Rattle.isa.specs.Codec.{decoded, encoded, laid-over};
+ghost use Rattle.records.specs.Codec.{decoded, encoded, laid-over};
 ghost use Rattle.isa.specs.Laws.{Decoding-undoes-encoding, Encoding-undoes-decoding};
-ghost use Rattle.isa.specs.Records.{meaning, outcome};
+ghost use Rattle.records.specs.Records.{meaning, outcome};
 ghost use Rattle.isa.specs.RoundTrips.{through, copied-answer, copied-over};
-use crate::record::Record;
-use crate::record::codec::decode;
+use records::Record;
+use records::decode;
 use crate::refusal::CodecError;
 use crate::refusal::CodecErrorFromDecode;
 use crate::refusal::CodecErrorFromEncode;
-use crate::refusal::EncodeError;
+use records::EncodeError;
 
 // Encodes a record at the start of a buffer and decodes what then stands there: the record comes back.
 pub fn decode_encoded(record: Record, buffer: &mut [u8]) -> Result<Record, EncodeError>

@@ -14,7 +14,7 @@ use Rattle.records.specs.declared.refusal.RecordError.{RecordError}
 use Rattle.records.specs.declared.refusal.RecordError.the-variants.{NoSuchRegister, LackingField, OutOfRange, OddOffset}
 use Rattle.opcodes.specs.declared.format.Format.{Format}
 use Rattle.opcodes.specs.declared.format.Format.the-variants.{RegRegReg, RegRegShift, RegRegImm, RegLongImm, Branch, Memory, RegReg, RegImm, RegShift, Reg, Jump, Stack, Bare}
-use Rattle.records.specs.Bits.{signed}
+use Rattle.fields.specs.Bits.{signed}
 use Rattle.opcodes.specs.Formats.{code-width}
 use Rattle.records.specs.Shapes.{shape, lacking-zero, in-range, even-enough}
 use Rattle.records.specs.Instructions.{Fields, fields, legal}

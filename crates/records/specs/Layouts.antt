@@ -10,7 +10,7 @@ use Rattle.std.specs.declared.option.Option.{Option}
 use Rattle.std.specs.declared.option.Option.the-variants.{Some, None}
 use Rattle.opcodes.specs.declared.format.Format.{Format}
 use Rattle.opcodes.specs.declared.format.Format.the-variants.{RegRegReg, RegRegShift, RegRegImm, RegLongImm, Branch, Memory, RegReg, RegImm, RegShift, Reg, Jump, Stack, Bare}
-use Rattle.records.specs.Bits.{signed, bits}
+use Rattle.fields.specs.Bits.{signed, bits}
 use Rattle.opcodes.specs.Formats.{code-width}
 use Rattle.records.specs.Instructions.{Fields, fields}
 

@@ -1,7 +1,7 @@
-pub mod Bits
 pub mod Codec
 pub mod Instructions
 pub mod Layouts
 pub mod Records
 pub mod Refusals
 pub mod Shapes
+pub mod Texts

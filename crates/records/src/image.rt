@@ -3,7 +3,7 @@ ghost use mathlib.Core.Path.{_≡_};
 ghost use Rattle.std.specs.Results.{Cases};
 ghost use Rattle.std.specs.declared.result.Result.the-variants.{Ok, Err};
 ghost use Rattle.records.specs.Codec.{split, cut};
-use crate::bits::is_long;
+use fields::is_long;
 use crate::refusal::DecodeError;
 
 #[derive(Clone, Copy)]

@@ -6,19 +6,19 @@ ghost use Rattle.records.specs.Codec.{image-bytes};
 ghost use Rattle.opcodes.specs.Formats.{code-width};
 ghost use Rattle.records.specs.Instructions.{values};
 ghost use Rattle.records.specs.Layouts.{read, layout, bytes-of};
-use crate::bits::above_five;
-use crate::bits::above_six;
-use crate::bits::eleven_bits;
-use crate::bits::even_offset;
-use crate::bits::high_nibble;
-use crate::bits::low_byte;
-use crate::bits::nibbles;
-use crate::bits::six_bits;
-use crate::bits::ten_bits;
+use fields::above_five;
+use fields::above_six;
+use fields::eleven_bits;
+use fields::even_offset;
+use fields::high_nibble;
+use fields::low_byte;
+use fields::nibbles;
+use fields::six_bits;
+use fields::ten_bits;
 use opcodes::Format;
 use crate::image::Image;
 use crate::operands::Operands;
-use crate::register::RegisterNumber;
+use fields::RegisterNumber;
 
 impl Operands {
     // The operands that the bytes of a format hold, unless they break a zero; the code in the first byte is not looked at.

@@ -1,12 +1,11 @@
 // Records of CAHPv3 instructions: making, decoding and encoding them.
-mod bits;
 mod image;
 mod layout;
 mod operands;
 mod record;
 mod refusal;
-mod register;
 mod shape;
+mod text;
 
 pub use record::Record;
 pub use record::RecordDebug;
@@ -21,6 +20,4 @@ pub use refusal::EncodeErrorPartialEq;
 pub use refusal::RecordError;
 pub use refusal::RecordErrorDebug;
 pub use refusal::RecordErrorPartialEq;
-pub use register::RegisterNumber;
-pub use register::RegisterNumberDebug;
-pub use register::RegisterNumberPartialEq;
+pub use text::RecordDisplay;

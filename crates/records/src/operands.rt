@@ -1,7 +1,7 @@
 // What an instruction holds besides its kind.
-use crate::register::RegisterNumber;
-use crate::register::RegisterNumberDebug;
-use crate::register::RegisterNumberPartialEq;
+use fields::RegisterNumber;
+use fields::RegisterNumberDebug;
+use fields::RegisterNumberPartialEq;
 
 #[derive(Clone, Copy, PartialEq, Eq, Debug)]
 pub(crate) struct Operands {

@@ -8,7 +8,7 @@ use opcodes::Kind;
 use crate::operands::Operands;
 use crate::record::Record;
 use crate::refusal::RecordError;
-use crate::register::RegisterNumber;
+use fields::RegisterNumber;
 use crate::shape::Shape;
 
 // Three registers by their numbers, if each is at most 15.

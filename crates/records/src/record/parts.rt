@@ -2,7 +2,7 @@
 ghost use mathlib.Core.Path.{_≡_};
 use opcodes::Kind;
 use crate::record::Record;
-use crate::register::RegisterNumber;
+use fields::RegisterNumber;
 
 impl Record {
     pub fn kind(self) -> Kind

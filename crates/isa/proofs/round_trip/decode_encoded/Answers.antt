@@ -3,9 +3,9 @@ use native.Mathlib.Omega.{arith}
 use Prim.Native.Nat.{ℕ}
 use Rattle.std.proofs.shelf.Results.{err-from-errBy}
 use Rattle.std.specs.declared.result.Result.the-variants.{Ok, Err}
-use Rattle.isa.specs.declared.refusal.EncodeError.{EncodeError}
-use Rattle.isa.specs.Instructions.{Instruction}
-use Rattle.isa.specs.Records.{meaning, outcome}
+use Rattle.records.specs.declared.refusal.EncodeError.{EncodeError}
+use Rattle.records.specs.Instructions.{Instruction}
+use Rattle.records.specs.Records.{meaning, outcome}
 use Rattle.isa.proofs.Round.{undoes}
 use Rattle.isa.proofs.Trips.{sound, through-laid, through-refused, comes-back}
 use Rattle.isa.proofs.round_trip.decode_encoded.Needs as need

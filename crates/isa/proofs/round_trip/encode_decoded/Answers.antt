@@ -3,9 +3,9 @@ use native.Mathlib.Omega.{arith}
 use Rattle.std.proofs.shelf.Results.{err-from-errBy}
 use Rattle.std.specs.declared.result.Result.{Result}
 use Rattle.std.specs.declared.result.Result.the-variants.{Ok, Err}
-use Rattle.isa.specs.declared.refusal.EncodeError.{EncodeError}
-use Rattle.isa.specs.Codec.{Decoded, decoded, gives}
-use Rattle.isa.specs.Records.{meaning, outcome}
+use Rattle.records.specs.declared.refusal.EncodeError.{EncodeError}
+use Rattle.records.specs.Codec.{Decoded, decoded, gives}
+use Rattle.records.specs.Records.{meaning, outcome}
 use Rattle.isa.specs.RoundTrips.{as-codec}
 use Rattle.isa.proofs.Round.{redoes}
 use Rattle.isa.proofs.Trips.{bytes-from, copied-laid, copied-bytes, undecoded, untouched}

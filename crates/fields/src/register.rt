@@ -2,8 +2,11 @@
 ghost use mathlib.Core.Path.{_≡_};
 ghost use Prim.Native.Nat.{_/_, _%_, _<_, _≤_};
 ghost use Rattle.std.specs.Options.{Cases as BySome};
+ghost use Rattle.std.specs.declared.option.Option.the-variants.{Some};
+ghost use Rattle.fields.specs.Texts.{register-text};
 use crate::bits::high_nibble;
 use crate::bits::low_nibble;
+use std::fmt;
 
 #[derive(Clone, Copy, PartialEq, Eq, Debug)]
 pub struct RegisterNumber {
@@ -31,23 +34,33 @@ impl RegisterNumber {
     }
 
     // x0, which also stands where a record has no register.
-    pub(crate) fn zero() -> RegisterNumber
+    pub fn zero() -> RegisterNumber
         ensures { λ r. ⌜ r .number ≡ 0 ⌝ }
     {
         RegisterNumber { number: 0 }
     }
 
     // The register in the low four bits of a byte.
-    pub(crate) fn in_low_nibble(byte: u8) -> RegisterNumber
+    pub fn in_low_nibble(byte: u8) -> RegisterNumber
         ensures { λ r. ⌜ r .number ≡ byte % 16 ⌝ }
     {
         RegisterNumber { number: low_nibble(byte) }
     }
 
     // The register in the high four bits of a byte.
-    pub(crate) fn in_high_nibble(byte: u8) -> RegisterNumber
+    pub fn in_high_nibble(byte: u8) -> RegisterNumber
         ensures { λ r. ⌜ r .number ≡ byte / 16 ⌝ }
     {
         RegisterNumber { number: high_nibble(byte) }
+    }
+}
+
+// x and the number.
+pub impl fmt::Display for RegisterNumber as RegisterNumberDisplay {
+    ghost shown = { λ x. Some (register-text (x .number)) };
+
+    fn fmt<W: fmt::Write>(&self, f: &mut fmt::Formatter<W>) -> fmt::Result {
+        let number = self.number();
+        write!(f, "x{number}")
     }
 }

@@ -1,5 +1,5 @@
 use Rattle.isa.proofs.Round.{examples}
-use Rattle.isa.proofs.laws.decoding_examples_hold.Needs as need
+use Rattle.isa.proofs.examples.decoding_examples_hold.Needs as need
 
 pub returns : need.returns
 returns c = examples

@@ -3,51 +3,49 @@ ghost use mathlib.Core.Path.{_≡_};
 ghost use Prim.Native.Nat.{_+_, _*_, _/_, _%_, _<_};
 ghost use lib.Dec.{eqb};
 ghost use lib.IntN.{pos};
-ghost use Rattle.records.specs.Bits.{signed};
+ghost use Rattle.fields.specs.Bits.{signed};
 
 // Whether a first byte begins an instruction of three bytes: bit 0 tells.
-pub(crate) fn is_long(low: u8) -> bool
+pub fn is_long(low: u8) -> bool
     ensures { λ r. ⌜ r ≡ eqb (low % 2) 1 ⌝ }
 {
     low & 1 == 1
 }
 
-pub(crate) fn low_nibble(byte: u8) -> u8
+pub fn low_nibble(byte: u8) -> u8
     ensures { λ r. ⌜ r ≡ byte % 16 ⌝ }
 {
     byte & 0x0F
 }
 
-pub(crate) fn high_nibble(byte: u8) -> u8
+pub fn high_nibble(byte: u8) -> u8
     ensures { λ r. ⌜ r ≡ byte / 16 ⌝ }
 {
     byte >> 4
 }
 
 // A byte of two halves.
-pub(crate) fn nibbles(low: u8, high: u8) -> u8
+pub fn nibbles(low: u8, high: u8) -> u8
     ensures { λ r. ⌜ r ≡ high % 16 * 16 + low % 16 ⌝ }
 {
     (high << 4) | (low & 0x0F)
 }
 
 // The first byte of a code of six bits, with two bits above it.
-pub(crate) fn above_six(above: u8, code: u8) -> u8
-    requires { ⌜ code < 64 ⌝ }
-    ensures { λ r. ⌜ r ≡ above % 4 * 64 + code ⌝ }
+pub fn above_six(above: u8, code: u8) -> u8
+    ensures { λ r. ⌜ r ≡ above % 4 * 64 + code % 64 ⌝ }
 {
     (above << 6) | (code & 0x3F)
 }
 
 // The first byte of a code of five bits, with three bits above it.
-pub(crate) fn above_five(above: u8, code: u8) -> u8
-    requires { ⌜ code < 32 ⌝ }
-    ensures { λ r. ⌜ r ≡ above % 8 * 32 + code ⌝ }
+pub fn above_five(above: u8, code: u8) -> u8
+    ensures { λ r. ⌜ r ≡ above % 8 * 32 + code % 32 ⌝ }
 {
     (above << 5) | (code & 0x1F)
 }
 
-pub(crate) fn low_byte(bits: u16) -> u8
+pub fn low_byte(bits: u16) -> u8
     ensures { λ r. ⌜ r ≡ bits % 256 ⌝ }
 {
     (bits & 0xFF) as u8
@@ -66,26 +64,26 @@ fn sign_extend(bits: u16, half: u16) -> i16
 }
 
 // The signed immediates of ten, six and eleven bits, in the bytes that hold them.
-pub(crate) fn ten_bits(low: u8, top: u8) -> i16
+pub fn ten_bits(low: u8, top: u8) -> i16
     ensures { λ r. ⌜ r ≡ signed 512 (low / 64 * 256 + top) ⌝ }
 {
     sign_extend(u16::from_le_bytes([top, low >> 6]), 512)
 }
 
-pub(crate) fn six_bits(low: u8, high: u8) -> i16
+pub fn six_bits(low: u8, high: u8) -> i16
     ensures { λ r. ⌜ r ≡ signed 32 (low / 64 * 16 + high / 16) ⌝ }
 {
     sign_extend(u16::from(nibbles(high >> 4, low >> 6)), 32)
 }
 
-pub(crate) fn eleven_bits(low: u8, high: u8) -> i16
+pub fn eleven_bits(low: u8, high: u8) -> i16
     ensures { λ r. ⌜ r ≡ signed 1024 (high * 8 + low / 32) ⌝ }
 {
     sign_extend(u16::from_le_bytes([low, high]) >> 5, 1024)
 }
 
 // The even offset of seven bits, whose bit 0 is not held.
-pub(crate) fn even_offset(low: u8, high: u8) -> i16
+pub fn even_offset(low: u8, high: u8) -> i16
     ensures { λ r. ⌜ r ≡ pos ((low / 64 * 16 + high / 16) * 2) ⌝ }
 {
     i16::from((low >> 6) * 16 + (high >> 4)) * 2

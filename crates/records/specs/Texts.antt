@@ -2,15 +2,13 @@
 -- Assumes nothing.
 use mathlib.Core.List.{List, [], _∷_, _++_}
 use Prim.Native.Nat.{ℕ}
+use Rattle.fields.specs.Texts.{register-text}
 use lib.Chars.{codes}
-use Rattle.std.specs.Written.{decimal, signed}
-use Rattle.isa.specs.declared.format.Format.{Format}
-use Rattle.isa.specs.declared.format.Format.the-variants.{RegRegReg, RegRegShift, RegRegImm, RegLongImm, Branch, Memory, RegReg, RegImm, RegShift, Reg, Jump, Stack, Bare}
-use Rattle.isa.specs.Instructions.{Fields, Instruction}
-use Rattle.isa.specs.Kinds.{format, name}
-
-abbrev pub register-text : ℕ → List ℕ
-register-text n = codes "x" ++ decimal n
+use Rattle.std.specs.Written.{signed}
+use Rattle.opcodes.specs.declared.format.Format.{Format}
+use Rattle.opcodes.specs.declared.format.Format.the-variants.{RegRegReg, RegRegShift, RegRegImm, RegLongImm, Branch, Memory, RegReg, RegImm, RegShift, Reg, Jump, Stack, Bare}
+use Rattle.records.specs.Instructions.{Fields, Instruction}
+use Rattle.opcodes.specs.Kinds.{format, name}
 
 -- what follows the name: a blank, and the operands with a comma and a blank between them
 abbrev pub operands-text : Format → Fields → List ℕ

@@ -1,20 +1,11 @@
 // The assembler text of a record: the name, and the operands with a comma and a blank between them.
 ghost use Rattle.std.specs.declared.option.Option.the-variants.{Some};
-ghost use Rattle.isa.specs.Records.{meaning};
-ghost use Rattle.isa.specs.Texts.{register-text, text};
-use crate::format::Format;
+ghost use Rattle.records.specs.Records.{meaning};
+ghost use Rattle.records.specs.Texts.{text};
+use opcodes::Format;
 use crate::record::Record;
-use crate::register::RegisterNumber;
+use fields::RegisterNumberDisplay;
 use std::fmt;
-
-pub impl fmt::Display for RegisterNumber as RegisterNumberDisplay {
-    ghost shown = { λ x. Some (register-text (x .number)) };
-
-    fn fmt<W: fmt::Write>(&self, f: &mut fmt::Formatter<W>) -> fmt::Result {
-        let number = self.number();
-        write!(f, "x{number}")
-    }
-}
 
 pub impl fmt::Display for Record as RecordDisplay {
     ghost shown = { λ x. Some (text (meaning x)) };

@@ -1,8 +1,0 @@
-use mathlib.Core.Path.{_∙_}
-use native.Mathlib.Omega.{arith}
-use Prim.Native.Nat.{_%_}
-use Rattle.records.proofs.Masks.{joined}
-use Rattle.records.proofs.bits.above_five.Needs as need
-
-pub returns : need.returns
-returns c = joined 5 (c .args .above % 8) (c .args .code) (omega arith) ∙ omega arith

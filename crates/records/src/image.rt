@@ -7,13 +7,13 @@ use fields::is_long;
 use crate::refusal::DecodeError;
 
 #[derive(Clone, Copy)]
-pub(crate) enum Image {
+pub enum Image {
     Two(u8, u8),
     Three(u8, u8, u8),
 }
 
 // The bytes of the first instruction of a byte string, and those after it.
-pub(crate) fn split(bytes: &[u8]) -> Result<(Image, &[u8]), DecodeError>
+pub fn split(bytes: &[u8]) -> Result<(Image, &[u8]), DecodeError>
     ensures { λ r. ⌜ Cases r (λ p. split (now (bytes .entry)) ≡ Ok (cut (p .0) (now (p .1)))) (λ e. split (now (bytes .entry)) ≡ Err e) ⌝ }
 {
     match bytes {

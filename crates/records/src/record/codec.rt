@@ -21,7 +21,7 @@ fn held(low: u8, high: u8, top: u8) -> Option<Record>
 
 impl Image {
     // The record that the bytes hold, if they are defined.
-    pub(crate) fn record(self) -> Option<Record>
+    pub fn record(self) -> Option<Record>
         ensures { λ r. ⌜ mapped meaning r ≡ held-in self ⌝ }
     {
         match self {

@@ -25,6 +25,7 @@ use Rattle.isa.specs.Laws.{Bytes, Decoding-undoes-encoding, Encoding-undoes-de
 use Rattle.records.specs.Layouts.{read, Layout, layout, bytes-of}
 use Rattle.opcodes.specs.Table.{named}
 use Rattle.records.proofs.Legal.{Good, read-good}
+use Rattle.records.proofs.Splits.{answered-ok, never}
 use Rattle.opcodes.proofs.Named.{long, code-of, named-by, code-lt, length-told, first-byte-mod, first-byte-div, first-byte-lt, first-byte-whole}
 use Rattle.isa.proofs.Redo.{following, laid-as, redo}
 use Rattle.isa.proofs.Undo.{Undone, undo}
@@ -110,20 +111,6 @@ again low h t x p q r e =
             ap (bytes-of f (code k)) (redo f u h t y lt q r d)
             ∙ ap (λ (b : ℕ). b ∷ following (long f) h t) (ap (λ (o : ℕ). u * 2 ^ code-width f + o) (sym is) ∙ first-byte-whole f low)
             ∙ ap (λ (b : Bool). low ∷ following b h t) (sym (length-told low k is))))
-
-answered-ok : (s : List ℕ) (o : Option Instruction) (r : List ℕ) (x : Instruction) (rest : List ℕ) → answered s o r ≡ gives (Ok x) rest → (o ≡ Some x) × (r ≡ rest)
-answered-ok s None r x rest e =
-    let d : Err Undefined ≡ Ok x = ap (λ (v : Decoded). v .answer) e in
-    let z : _≡_ {A = ℕ} 0 1 = cc in
-    absurd (omega arith)
-answered-ok s (Some y) r x rest e =
-    let d : Ok y ≡ Ok x = ap (λ (v : Decoded). v .answer) e in (cc, ap (λ (v : Decoded). v .rest) e)
-
-never : (s : List ℕ) (e : DecodeError) (x : Instruction) (rest : List ℕ) → gives (Err e) s ≡ gives (Ok x) rest → ⊥
-never s e x rest h =
-    let d : Err e ≡ Ok x = ap (λ (v : Decoded). v .answer) h in
-    let z : _≡_ {A = ℕ} 0 1 = cc in
-    omega arith
 
 -- the instruction's bytes and the rest are the string
 abbrev Whole : List ℕ → Instruction → List ℕ → Type 0

@@ -1,16 +1,21 @@
--- The first bytes of a slice, as slice patterns bind them. Assumes nothing.
+-- The first bytes of a slice, as slice patterns bind them, and what decoding makes of them. Assumes nothing.
 use mathlib.Core.Path.{_≡_, ap, sym, _∙_}
-use mathlib.Core.Bool.{true, false}
+use mathlib.Core.Bool.{Bool, true, false, cond}
 use mathlib.Core.List.{List, [], _∷_}
-use Prim.Native.Nat.{ℕ, suc, _+_, _-_, _%_, _≤_}
+use Prim.Native.Nat.{ℕ, suc, _+_, _-_, _%_, _<_, _≤_}
 use native.Mathlib.Omega.{arith}
 use lib.Dec.{eqb}
 use lib.ListN.{length, getD, drop, take}
 use Rattle.std.proofs.shelf.Lists.{take-all}
 use Rattle.std.proofs.shelf.Tests.{cond-true, cond-false}
-use Rattle.std.specs.declared.result.Result.the-variants.{Ok}
+use Rattle.std.specs.declared.option.Option.{Option}
+use Rattle.std.specs.declared.option.Option.the-variants.{Some, None}
+use Rattle.std.specs.declared.result.Result.the-variants.{Ok, Err}
 use Rattle.records.specs.declared.image.Image.the-variants.{Two, Three}
-use Rattle.records.specs.Codec.{split, cut}
+use Rattle.records.specs.declared.refusal.DecodeError.{DecodeError}
+use Rattle.records.specs.declared.refusal.DecodeError.the-variants.{Empty, CutShort, Undefined}
+use Rattle.records.specs.Codec.{split, cut, held, Decoded, gives, answered, decoded-from, decoded}
+use Rattle.records.specs.Instructions.{Instruction}
 
 whole : (xs : List ℕ) (n k : ℕ) → n ≡ length xs + k → xs ≡ take (n - k) xs
 whole xs n k e = sym (take-all (n - k) xs (omega arith))
@@ -28,3 +33,35 @@ split-two (low ∷ []) h e = absurd (omega arith)
 split-two (low ∷ high ∷ []) h e = cond-false (eqb (low % 2) 1) _ _ e
 split-two (low ∷ high ∷ top ∷ rest) h e =
     cond-false (eqb (low % 2) 1) _ _ e ∙ ap (λ (r : List ℕ). Ok (cut (Two low high) r)) (whole (top ∷ rest) (suc (suc (suc (length rest)))) 2 (omega arith))
+
+-- what an accepted string says of its parts
+pub answered-ok : (s : List ℕ) (o : Option Instruction) (r : List ℕ) (x : Instruction) (rest : List ℕ) → answered s o r ≡ gives (Ok x) rest → (o ≡ Some x) × (r ≡ rest)
+answered-ok s None r x rest e =
+    let d : Err Undefined ≡ Ok x = ap (λ (v : Decoded). v .answer) e in
+    let z : _≡_ {A = ℕ} 0 1 = cc in
+    absurd (omega arith)
+answered-ok s (Some y) r x rest e =
+    let d : Ok y ≡ Ok x = ap (λ (v : Decoded). v .answer) e in (cc, ap (λ (v : Decoded). v .rest) e)
+
+-- a refusal is no instruction
+pub never : (s : List ℕ) (e : DecodeError) (x : Instruction) (rest : List ℕ) → gives (Err e) s ≡ gives (Ok x) rest → ⊥
+never s e x rest h =
+    let d : Err e ≡ Ok x = ap (λ (v : Decoded). v .answer) h in
+    let z : _≡_ {A = ℕ} 0 1 = cc in
+    omega arith
+
+-- what follows an instruction is shorter
+pub shorter : (s : List ℕ) (x : Instruction) (rest : List ℕ) → decoded s ≡ gives (Ok x) rest → length rest < length s
+unfolding decoded
+shorter [] x rest e = absurd (never [] Empty x rest e)
+shorter (low ∷ []) x rest e = absurd (never (low ∷ []) CutShort x rest e)
+shorter (low ∷ h ∷ []) x rest e =
+    let s : List ℕ = low ∷ h ∷ [] in
+    elim (eqb (low % 2) 1) as (λ v. decoded-from s (cond v (Err CutShort) (Ok (cut (Two low h) []))) ≡ gives (Ok x) rest → length rest < length s)
+    [ true ↦ λ d. absurd (never s CutShort x rest d)
+    | false ↦ λ d. let r = ap length (answered-ok s (held low h 0) [] x rest d .1) in omega arith ] e
+shorter (low ∷ h ∷ t ∷ r) x rest e =
+    let s : List ℕ = low ∷ h ∷ t ∷ r in
+    elim (eqb (low % 2) 1) as (λ v. decoded-from s (cond v (Ok (cut (Three low h t) r)) (Ok (cut (Two low h) (t ∷ r)))) ≡ gives (Ok x) rest → length rest < length s)
+    [ true ↦ λ d. let q = ap length (answered-ok s (held low h t) r x rest d .1) in omega arith
+    | false ↦ λ d. let q = ap length (answered-ok s (held low h 0) (t ∷ r) x rest d .1) in omega arith ] e

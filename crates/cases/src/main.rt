@@ -1,0 +1,258 @@
+// Tries the instruction set on a table of cases, and prints what each gives.
+use disassembly::listing;
+use isa::Record;
+use isa::RecordDisplay;
+use isa::decode;
+use isa::decode_encoded;
+use isa::encode_decoded;
+use isa::lookup;
+use std::fmt;
+use std::io;
+use std::io::Write;
+
+// Sixteen entries of the opcode table, those with the same high digit.
+#[derive(Clone, Copy)]
+struct Row(u8);
+
+impl fmt::Display for Row as RowDisplay {
+    fn fmt<W: fmt::Write>(&self, f: &mut fmt::Formatter<W>) -> fmt::Result {
+        let high = self.0;
+        write!(f, "{high:X}:")?;
+        for low in 0..16u8 {
+            let name = match lookup((high % 16) * 16 + low) {
+                Some(kind) => kind.name(),
+                None => "-",
+            };
+            write!(f, " {name}")?;
+        }
+        Ok(())
+    }
+}
+
+// Bytes in hexadecimal, each after a blank.
+#[derive(Clone, Copy)]
+struct Hex<'a>(&'a [u8]);
+
+impl fmt::Display for Hex<'_> as HexDisplay {
+    fn fmt<W: fmt::Write>(&self, f: &mut fmt::Formatter<W>) -> fmt::Result {
+        for b in self.0 {
+            let b = *b;
+            write!(f, " {b:02X}")?;
+        }
+        Ok(())
+    }
+}
+
+// A record made of numbers, and its bytes in a buffer of four.
+#[derive(Clone, Copy)]
+struct Making {
+    kind: u8,
+    a: u8,
+    b: u8,
+    c: u8,
+    imm: i32,
+}
+
+impl fmt::Display for Making as MakingDisplay {
+    fn fmt<W: fmt::Write>(&self, f: &mut fmt::Formatter<W>) -> fmt::Result {
+        let Making { kind, a, b, c, imm } = *self;
+        write!(f, "make {kind} {a} {b} {c} {imm}: ")?;
+        match Record::new(kind, a, b, c, imm) {
+            Ok(record) => {
+                let mut buffer = [0xEE; 4];
+                match decode_encoded(record, &mut buffer) {
+                    Ok(again) => {
+                        let bytes = Hex(&buffer);
+                        write!(f, "{again} ={bytes}")
+                    }
+                    Err(refusal) => {
+                        let number = refusal.number();
+                        write!(f, "{number}")
+                    }
+                }
+            }
+            Err(refusal) => {
+                let number = refusal.number();
+                write!(f, "{number}")
+            }
+        }
+    }
+}
+
+// The first instruction of a byte string, and its bytes in a buffer of four.
+#[derive(Clone, Copy)]
+struct Decoding<'a>(&'a [u8]);
+
+impl fmt::Display for Decoding<'_> as DecodingDisplay {
+    fn fmt<W: fmt::Write>(&self, f: &mut fmt::Formatter<W>) -> fmt::Result {
+        let bytes = Hex(self.0);
+        write!(f, "decode{bytes}: ")?;
+        let (answer, _) = decode(self.0);
+        let mut buffer = [0xEE; 4];
+        match encode_decoded(self.0, &mut buffer) {
+            Ok(count) => {
+                if let Ok(record) = answer {
+                    write!(f, "{record}, ")?;
+                }
+                let all = self.0.len();
+                let again = Hex(&buffer);
+                write!(f, "{count} of {all} bytes; again{again}")
+            }
+            Err(refusal) => {
+                let number = refusal.number();
+                write!(f, "{number}")
+            }
+        }
+    }
+}
+
+// What encoding a record answers in buffers of none to three bytes.
+#[derive(Clone, Copy)]
+struct Encoding(Record);
+
+impl fmt::Display for Encoding as EncodingDisplay {
+    fn fmt<W: fmt::Write>(&self, f: &mut fmt::Formatter<W>) -> fmt::Result {
+        let record = self.0;
+        write!(f, "encode {record} into 0 to 3 bytes:")?;
+        for room in 0..4usize {
+            let mut buffer = [0; 3];
+            match record.encode(&mut buffer[0..room]) {
+                Ok(count) => write!(f, " {count}")?,
+                Err(refusal) => {
+                    let number = refusal.number();
+                    write!(f, " {number}")?;
+                }
+            }
+        }
+        Ok(())
+    }
+}
+
+const MAKINGS: &[Making] = &[
+    Making { kind: 1, a: 15, b: 14, c: 13, imm: 0 },
+    Making { kind: 1, a: 15, b: 14, c: 13, imm: 1 },
+    Making { kind: 14, a: 15, b: 14, c: 0, imm: -1 },
+    Making { kind: 14, a: 15, b: 14, c: 0, imm: 0 },
+    Making { kind: 14, a: 15, b: 14, c: 0, imm: 15 },
+    Making { kind: 14, a: 15, b: 14, c: 0, imm: 16 },
+    Making { kind: 9, a: 15, b: 14, c: 0, imm: -513 },
+    Making { kind: 9, a: 15, b: 14, c: 0, imm: -512 },
+    Making { kind: 9, a: 15, b: 14, c: 0, imm: 511 },
+    Making { kind: 9, a: 15, b: 14, c: 0, imm: 512 },
+    Making { kind: 13, a: 15, b: 0, c: 0, imm: -513 },
+    Making { kind: 13, a: 15, b: 0, c: 0, imm: -512 },
+    Making { kind: 13, a: 15, b: 0, c: 0, imm: 511 },
+    Making { kind: 13, a: 15, b: 0, c: 0, imm: 512 },
+    Making { kind: 17, a: 15, b: 14, c: 0, imm: -513 },
+    Making { kind: 17, a: 15, b: 14, c: 0, imm: -512 },
+    Making { kind: 17, a: 15, b: 14, c: 0, imm: 511 },
+    Making { kind: 17, a: 15, b: 14, c: 0, imm: 512 },
+    Making { kind: 23, a: 15, b: 14, c: 0, imm: -513 },
+    Making { kind: 23, a: 15, b: 14, c: 0, imm: -512 },
+    Making { kind: 23, a: 15, b: 14, c: 0, imm: 511 },
+    Making { kind: 23, a: 15, b: 14, c: 0, imm: 512 },
+    Making { kind: 28, a: 15, b: 14, c: 0, imm: 0 },
+    Making { kind: 28, a: 15, b: 14, c: 0, imm: 1 },
+    Making { kind: 37, a: 15, b: 0, c: 0, imm: -33 },
+    Making { kind: 37, a: 15, b: 0, c: 0, imm: -32 },
+    Making { kind: 37, a: 15, b: 0, c: 0, imm: 31 },
+    Making { kind: 37, a: 15, b: 0, c: 0, imm: 32 },
+    Making { kind: 41, a: 15, b: 0, c: 0, imm: -1 },
+    Making { kind: 41, a: 15, b: 0, c: 0, imm: 0 },
+    Making { kind: 41, a: 15, b: 0, c: 0, imm: 15 },
+    Making { kind: 41, a: 15, b: 0, c: 0, imm: 16 },
+    Making { kind: 44, a: 15, b: 0, c: 0, imm: 0 },
+    Making { kind: 44, a: 15, b: 0, c: 0, imm: 1 },
+    Making { kind: 46, a: 0, b: 0, c: 0, imm: -1025 },
+    Making { kind: 46, a: 0, b: 0, c: 0, imm: -1024 },
+    Making { kind: 46, a: 0, b: 0, c: 0, imm: 1023 },
+    Making { kind: 46, a: 0, b: 0, c: 0, imm: 1024 },
+    Making { kind: 48, a: 15, b: 0, c: 0, imm: -1 },
+    Making { kind: 48, a: 15, b: 0, c: 0, imm: 0 },
+    Making { kind: 48, a: 15, b: 0, c: 0, imm: 126 },
+    Making { kind: 48, a: 15, b: 0, c: 0, imm: 127 },
+    Making { kind: 50, a: 0, b: 0, c: 0, imm: 0 },
+    Making { kind: 50, a: 0, b: 0, c: 0, imm: 1 },
+    Making { kind: 48, a: 8, b: 0, c: 0, imm: 125 },
+    Making { kind: 48, a: 8, b: 0, c: 0, imm: 127 },
+    Making { kind: 48, a: 8, b: 0, c: 0, imm: -2 },
+    Making { kind: 48, a: 8, b: 0, c: 0, imm: 2 },
+    Making { kind: 0, a: 16, b: 16, c: 16, imm: 99999 },
+    Making { kind: 51, a: 0, b: 0, c: 0, imm: 0 },
+    Making { kind: 255, a: 0, b: 0, c: 0, imm: 0 },
+    Making { kind: 1, a: 16, b: 0, c: 0, imm: 0 },
+    Making { kind: 1, a: 0, b: 16, c: 0, imm: 0 },
+    Making { kind: 1, a: 0, b: 0, c: 16, imm: 0 },
+    Making { kind: 45, a: 1, b: 16, c: 0, imm: 0 },
+    Making { kind: 50, a: 0, b: 0, c: 255, imm: 1 },
+    Making { kind: 45, a: 1, b: 1, c: 0, imm: 0 },
+    Making { kind: 50, a: 0, b: 0, c: 0, imm: 1 },
+    Making { kind: 50, a: 1, b: 0, c: 0, imm: 0 },
+    Making { kind: 48, a: 8, b: 1, c: 0, imm: 125 },
+    Making { kind: 13, a: 8, b: 1, c: 0, imm: 600 },
+    Making { kind: 1, a: 1, b: 2, c: 3, imm: 65536 },
+    Making { kind: 9, a: 1, b: 2, c: 0, imm: 65535 },
+    Making { kind: 9, a: 1, b: 2, c: 0, imm: 2147483647 },
+    Making { kind: 9, a: 1, b: 2, c: 0, imm: -2147483648 },
+];
+
+const STRINGS: &[&[u8]] = &[
+    &[0x00, 0x00],
+    &[0x34, 0x38],
+    &[0xC2, 0xF8],
+    &[0xEF, 0x89, 0xFE],
+    &[0x01, 0x21, 0x03],
+    &[0xD4, 0xF8],
+    &[0x01, 0x21, 0x13],
+    &[0x07, 0x00, 0x00],
+    &[0x40, 0x00],
+    &[0x01, 0x21],
+    &[],
+    &[0x00],
+    &[0x07],
+    &[0x07, 0x00],
+    &[0x40],
+    &[0x16, 0x10],
+    &[0x06, 0x0F],
+    &[0x00, 0x01],
+    &[0x35, 0x18, 0x05],
+    &[0x35, 0x08, 0x05],
+    &[0x2B, 0x00, 0x10],
+    &[0x2B, 0x00, 0x0F],
+    &[0x34, 0x38, 0xFF],
+    &[0x01, 0x21, 0x03, 0x01],
+    &[0x0E, 0x80],
+    &[0xEE, 0x7F],
+];
+
+const FILTERS: &[&[u8]] = &[
+    &[],
+    &[0x34, 0x38, 0xC2, 0xF8, 0xEF, 0x89, 0xFE],
+    &[0x34, 0x38, 0x01],
+    &[0x34, 0x38, 0x01, 0x21],
+    &[0x34, 0x38, 0x07, 0x00, 0x00],
+];
+
+fn main(rt: LibcRuntime) -> io::Result<()> {
+    for high in 0..16u8 {
+        rt.println(Row(high))?;
+    }
+    for making in MAKINGS {
+        rt.println(*making)?;
+    }
+    for string in STRINGS {
+        rt.println(Decoding(*string))?;
+    }
+    for kind in [1u8, 50] {
+        if let Ok(record) = Record::new(kind, 0, 0, 0, 0) {
+            rt.println(Encoding(record))?;
+        }
+    }
+    for filter in FILTERS {
+        let bytes = Hex(*filter);
+        println!(rt, "list{bytes}")?;
+        let text = listing(rt.alloc(), *filter)?;
+        rt.stdout().write_all(&text)?;
+    }
+    Ok(())
+}

@@ -100,3 +100,45 @@ pub fn justify_at(out: &mut [u8], from: usize, width: usize, n: u64) -> Result<(
     }
     justify(&mut out[from..from + width], n)
 }
+
+#[cfg(test)]
+mod tests {
+    use super::*;
+    use std::test::*;
+
+    fn in_eight(n: u64) -> [u8; 8] {
+        let mut field = [b'*'; 8];
+        let _ = justify(&mut field, n);
+        field
+    }
+
+    #[test]
+    fn a_field_is_filled_from_the_right() -> Result<(), Fail> {
+        check(in_eight(0) == *b"       0")?;
+        check(in_eight(9) == *b"       9")?;
+        check(in_eight(10) == *b"      10")?;
+        check(in_eight(12_345_678) == *b"12345678")
+    }
+
+    #[test]
+    fn what_does_not_fit_is_refused_and_not_written() -> Result<(), Fail> {
+        check(in_eight(100_000_000) == *b"********")?;
+        check_eq(justify(&mut [], 0), Err(ColumnsError::TooLong))?;
+        let mut field = [b'*'; 20];
+        check_eq(justify(&mut field[0..19], u64::MAX), Err(ColumnsError::TooLong))?;
+        check_eq(justify(&mut field, u64::MAX), Ok(()))?;
+        check(field == *b"18446744073709551615")
+    }
+
+    #[test]
+    fn columns_lie_inside_the_buffer() -> Result<(), Fail> {
+        let mut out = [b'*'; 6];
+        check_eq(justify_at(&mut out, 2, 3, 7), Ok(()))?;
+        check(out == *b"**  7*")?;
+        check_eq(justify_at(&mut out, 4, 3, 7), Err(ColumnsError::NoRoom))?;
+        check_eq(justify_at(&mut out, 7, 0, 7), Err(ColumnsError::NoRoom))?;
+        check_eq(justify_at(&mut out, usize::MAX, 1, 7), Err(ColumnsError::NoRoom))?;
+        check_eq(justify_at(&mut out, 0, 2, 100), Err(ColumnsError::TooLong))?;
+        check(out == *b"**  7*")
+    }
+}

@@ -1,4 +1,4 @@
-// Fields of bytes by masks and shifts, with what they mean in arithmetic.
+// Numbers in the bits of bytes. Quotients and remainders of powers of two are shifts and masks to the machine.
 ghost use mathlib.Core.Path.{_≡_};
 ghost use Prim.Native.Nat.{_+_, _*_, _/_, _%_, _<_};
 ghost use lib.Dec.{eqb};
@@ -9,46 +9,34 @@ ghost use Rattle.fields.specs.Bits.{signed};
 pub fn is_long(low: u8) -> bool
     ensures { λ r. ⌜ r ≡ eqb (low % 2) 1 ⌝ }
 {
-    low & 1 == 1
-}
-
-pub fn low_nibble(byte: u8) -> u8
-    ensures { λ r. ⌜ r ≡ byte % 16 ⌝ }
-{
-    byte & 0x0F
-}
-
-pub fn high_nibble(byte: u8) -> u8
-    ensures { λ r. ⌜ r ≡ byte / 16 ⌝ }
-{
-    byte >> 4
+    low % 2 == 1
 }
 
 // A byte of two halves.
 pub fn nibbles(low: u8, high: u8) -> u8
     ensures { λ r. ⌜ r ≡ high % 16 * 16 + low % 16 ⌝ }
 {
-    (high << 4) | (low & 0x0F)
+    high % 16 * 16 + low % 16
 }
 
 // The first byte of a code of six bits, with two bits above it.
 pub fn above_six(above: u8, code: u8) -> u8
     ensures { λ r. ⌜ r ≡ above % 4 * 64 + code % 64 ⌝ }
 {
-    (above << 6) | (code & 0x3F)
+    above % 4 * 64 + code % 64
 }
 
 // The first byte of a code of five bits, with three bits above it.
 pub fn above_five(above: u8, code: u8) -> u8
     ensures { λ r. ⌜ r ≡ above % 8 * 32 + code % 32 ⌝ }
 {
-    (above << 5) | (code & 0x1F)
+    above % 8 * 32 + code % 32
 }
 
 pub fn low_byte(bits: u16) -> u8
     ensures { λ r. ⌜ r ≡ bits % 256 ⌝ }
 {
-    (bits & 0xFF) as u8
+    (bits % 256) as u8
 }
 
 // The number that raw bits stand for in two's complement, where half is the weight of the sign.
@@ -67,24 +55,24 @@ fn sign_extend(bits: u16, half: u16) -> i16
 pub fn ten_bits(low: u8, top: u8) -> i16
     ensures { λ r. ⌜ r ≡ signed 512 (low / 64 * 256 + top) ⌝ }
 {
-    sign_extend(u16::from_le_bytes([top, low >> 6]), 512)
+    sign_extend(u16::from_le_bytes([top, low / 64]), 512)
 }
 
 pub fn six_bits(low: u8, high: u8) -> i16
     ensures { λ r. ⌜ r ≡ signed 32 (low / 64 * 16 + high / 16) ⌝ }
 {
-    sign_extend(u16::from(nibbles(high >> 4, low >> 6)), 32)
+    sign_extend(u16::from(nibbles(high / 16, low / 64)), 32)
 }
 
 pub fn eleven_bits(low: u8, high: u8) -> i16
     ensures { λ r. ⌜ r ≡ signed 1024 (high * 8 + low / 32) ⌝ }
 {
-    sign_extend(u16::from_le_bytes([low, high]) >> 5, 1024)
+    sign_extend(u16::from_le_bytes([low, high]) / 32, 1024)
 }
 
 // The even offset of seven bits, whose bit 0 is not held.
 pub fn even_offset(low: u8, high: u8) -> i16
     ensures { λ r. ⌜ r ≡ pos ((low / 64 * 16 + high / 16) * 2) ⌝ }
 {
-    i16::from((low >> 6) * 16 + (high >> 4)) * 2
+    i16::from(low / 64 * 16 + high / 16) * 2
 }

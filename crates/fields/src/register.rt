@@ -4,8 +4,6 @@ ghost use Prim.Native.Nat.{_/_, _%_, _<_, _≤_};
 ghost use Rattle.std.specs.Options.{Cases as BySome};
 ghost use Rattle.std.specs.declared.option.Option.the-variants.{Some};
 ghost use Rattle.fields.specs.Texts.{register-text};
-use crate::bits::high_nibble;
-use crate::bits::low_nibble;
 use std::fmt;
 
 #[derive(Clone, Copy, PartialEq, Eq, Debug)]
@@ -44,14 +42,14 @@ impl RegisterNumber {
     pub fn in_low_nibble(byte: u8) -> RegisterNumber
         ensures { λ r. ⌜ r .number ≡ byte % 16 ⌝ }
     {
-        RegisterNumber { number: low_nibble(byte) }
+        RegisterNumber { number: byte % 16 }
     }
 
     // The register in the high four bits of a byte.
     pub fn in_high_nibble(byte: u8) -> RegisterNumber
         ensures { λ r. ⌜ r .number ≡ byte / 16 ⌝ }
     {
-        RegisterNumber { number: high_nibble(byte) }
+        RegisterNumber { number: byte / 16 }
     }
 }
 

@@ -10,7 +10,6 @@ use fields::above_five;
 use fields::above_six;
 use fields::eleven_bits;
 use fields::even_offset;
-use fields::high_nibble;
 use fields::low_byte;
 use fields::nibbles;
 use fields::six_bits;
@@ -36,7 +35,7 @@ impl Operands {
             Format::Branch => Some(Operands { a: y, b: x, c: none, imm: ten_bits(low, top) }),
             Format::RegReg => Some(Operands { a: x, b: y, c: none, imm: 0 }),
             Format::RegImm => Some(Operands { a: x, b: none, c: none, imm: six_bits(low, high) }),
-            Format::RegShift => Some(Operands { a: x, b: none, c: none, imm: i16::from(high_nibble(high)) }),
+            Format::RegShift => Some(Operands { a: x, b: none, c: none, imm: i16::from(high / 16) }),
             Format::Reg if high < 16 => Some(Operands { a: x, b: none, c: none, imm: 0 }),
             Format::Jump => Some(Operands { a: none, b: none, c: none, imm: eleven_bits(low, high) }),
             Format::Stack => Some(Operands { a: x, b: none, c: none, imm: even_offset(low, high) }),
@@ -55,15 +54,15 @@ impl Operands {
         match format {
             Format::RegRegReg => Image::Three(code, nibbles(a, b), c),
             Format::RegRegShift => Image::Three(code, nibbles(a, b), low_byte(bits)),
-            Format::RegRegImm | Format::Memory => Image::Three(above_six(low_byte(bits >> 8), code), nibbles(a, b), low_byte(bits)),
-            Format::RegLongImm => Image::Three(above_six(low_byte(bits >> 8), code), nibbles(a, 0), low_byte(bits)),
-            Format::Branch => Image::Three(above_six(low_byte(bits >> 8), code), nibbles(b, a), low_byte(bits)),
+            Format::RegRegImm | Format::Memory => Image::Three(above_six(low_byte(bits / 256), code), nibbles(a, b), low_byte(bits)),
+            Format::RegLongImm => Image::Three(above_six(low_byte(bits / 256), code), nibbles(a, 0), low_byte(bits)),
+            Format::Branch => Image::Three(above_six(low_byte(bits / 256), code), nibbles(b, a), low_byte(bits)),
             Format::RegReg => Image::Two(code, nibbles(a, b)),
-            Format::RegImm => Image::Two(above_six(low_byte(bits >> 4), code), nibbles(a, low_byte(bits))),
+            Format::RegImm => Image::Two(above_six(low_byte(bits / 16), code), nibbles(a, low_byte(bits))),
             Format::RegShift => Image::Two(code, nibbles(a, low_byte(bits))),
             Format::Reg => Image::Two(code, nibbles(a, 0)),
-            Format::Jump => Image::Two(above_five(low_byte(bits), code), low_byte(bits >> 3)),
-            Format::Stack => Image::Two(above_six(low_byte(bits >> 5), code), nibbles(a, low_byte(bits >> 1))),
+            Format::Jump => Image::Two(above_five(low_byte(bits), code), low_byte(bits / 8)),
+            Format::Stack => Image::Two(above_six(low_byte(bits / 32), code), nibbles(a, low_byte(bits / 2))),
             Format::Bare => Image::Two(code, 0),
         }
     }

@@ -3,20 +3,21 @@
 use mathlib.Core.Path.{_≡_}
 use mathlib.Core.Bool.{Bool, cond}
 use mathlib.Core.List.{List, [], _∷_, _++_}
-use Prim.Native.Nat.{ℕ, _+_, _-_, _/_, _%_, _<_}
+use Prim.Native.Nat.{ℕ, zero, suc, _+_, _-_, _/_, _%_, _≤_}
 use lib.Chars.{codes}
 use lib.Dec.{eqb, ltb, leb}
 use lib.ListN.{length, take}
-use Rattle.std.specs.Orderings.{When}
 use Rattle.std.specs.Written.{decimal}
+use Rattle.std.specs.shelf.Lists.{All}
 use denote.Ref.{RefT}
 use Rattle.std.specs.declared.option.Option.{Option}
 use Rattle.std.specs.declared.option.Option.the-variants.{Some, None}
+use Rattle.std.specs.declared.result.Result.{Result}
 use Rattle.std.specs.declared.result.Result.the-variants.{Ok, Err}
 use Rattle.columns.specs.Columns.{padded}
 use Rattle.records.specs.declared.refusal.DecodeError.{DecodeError}
-use Rattle.records.specs.Codec.{decoded, gives}
-use Rattle.records.specs.Instructions.{Instruction}
+use Rattle.records.specs.Codec.{decoded, encoded, gives}
+use Rattle.records.specs.Instructions.{Instruction, Sound}
 use Rattle.records.specs.Refusals.{decode-number, decode-message}
 use Rattle.records.specs.Texts.{text}
 
@@ -50,12 +51,35 @@ abbrev pub First : ℕ → List ℕ → List ℕ → List ℕ → Option (RefT (
 First at s before after (Some rest) = (x : Instruction) × (decoded s ≡ gives (Ok x) (rest .now)) × (after ≡ before ++ line at (take (length s - length (rest .now)) s) x)
 First at s before after None = (e : DecodeError) × (decoded s .answer ≡ Err e) × (after ≡ before ++ refusal-line at e)
 
--- what is listed of the bytes from an address on, after some instructions
-pub data Listed : ℕ → ℕ → List ℕ → List ℕ → Type 0 where
-  end : (at count : ℕ) → Listed at count [] (count-line count)
-  refused : (at count : ℕ) (s : List ℕ) (e : DecodeError) → 0 < length s → decoded s .answer ≡ Err e → Listed at count s (refusal-line at e ++ count-line count)
-  more : (at count : ℕ) (s : List ℕ) (x : Instruction) (rest out : List ℕ) → decoded s ≡ gives (Ok x) rest → Listed (at + (length s - length rest)) (count + 1) rest out → Listed at count s (line at (take (length s - length rest) s) x ++ out)
+-- what an answer of decoding lists, given how the listing goes on with what is left
+abbrev pub by-answer : ℕ → ℕ → List ℕ → Result Instruction DecodeError → List ℕ → (ℕ → ℕ → List ℕ → List ℕ) → List ℕ
+by-answer at count s (Ok x) rest goes-on = line at (take (length s - length rest) s) x ++ goes-on (at + (length s - length rest)) (count + 1) rest
+by-answer at count s (Err e) rest goes-on = refusal-line at e ++ count-line count
 
--- the listing of a filter
-abbrev pub Listing : List ℕ → List ℕ → Type 0
-Listing s out = When (leb (length s) 65536) (Listed 0 0 s out) (out ≡ too-long)
+-- what is listed of the bytes from an address on, after some instructions; the first number bounds how many follow
+abbrev pub listed : ℕ → ℕ → ℕ → List ℕ → List ℕ
+listed zero at count s = count-line count
+listed (suc n) at count [] = count-line count
+listed (suc n) at count (b ∷ s) = by-answer at count (b ∷ s) (decoded (b ∷ s) .answer) (decoded (b ∷ s) .rest) (listed n)
+
+-- the listing of a filter: no more instructions follow than there are bytes
+unfoldable pub listing : List ℕ → List ℕ
+listing s = cond (leb (length s) 65536) (listed (length s) 0 0 s) too-long
+
+-- the bytes of some instructions, and their lines from an address on
+abbrev pub bytes : List Instruction → List ℕ
+bytes [] = []
+bytes (x ∷ xs) = encoded x ++ bytes xs
+
+abbrev pub lines : ℕ → List Instruction → List ℕ
+lines at [] = []
+lines at (x ∷ xs) = line at (encoded x) x ++ lines (at + length (encoded x)) xs
+
+-- a filter that was encoded from instructions is listed as these instructions, each with its own bytes
+abbrev pub Shows-what-was-encoded : Type 0
+Shows-what-was-encoded = (xs : List Instruction) → All Sound xs → length (bytes xs) ≤ 65536 → listing (bytes xs) ≡ lines 0 xs ++ count-line (length xs)
+
+-- every byte of a listing, and what a listing shows
+pub record Lists (s out : List ℕ) : Type 0 where
+  pub bytes : out ≡ listing s
+  pub law : Shows-what-was-encoded

@@ -7,7 +7,7 @@ ghost use Rattle.std.specs.Of.Vec.{vec-items};
 ghost use Rattle.std.specs.Vec.{made};
 ghost use Rattle.columns.specs.Columns.{padded};
 ghost use Rattle.records.specs.Records.{meaning};
-ghost use Rattle.disassembly.specs.Listings.{hex-digit, hexes, gap, line, refusal-line, count-line, First, Listing};
+ghost use Rattle.disassembly.specs.Listings.{hex-digit, hexes, gap, line, refusal-line, count-line, First, Lists};
 use columns::justify;
 use isa::DecodeError;
 use isa::Record;
@@ -116,9 +116,9 @@ fn push_first<'a>(out: &mut Vec<u8>, heap: Global, at: usize, bytes: &'a [u8]) -
     }
 }
 
-// The listing of a filter.
+// The listing of a filter. The law: a filter that was encoded from instructions is listed as just these instructions.
 pub fn listing(heap: Global, filter: &[u8]) -> Result<Vec<u8>, AllocError>
-    ensures { λ r. ⌜ made r (λ v. Listing (now (filter .entry)) (vec-items v)) ⌝ }
+    ensures { λ r. ⌜ made r (λ v. Lists (now (filter .entry)) (vec-items v)) ⌝ }
 {
     let mut out = Vec::new(heap);
     if filter.len() > LIMIT {

@@ -8,12 +8,13 @@ use Rattle.std.specs.Of.Vec.{vec-items}
 use Rattle.std.specs.declared.option.Option.the-variants.{Some, None}
 use Rattle.records.proofs.Splits.{shorter}
 use Rattle.disassembly.specs.Listings.{First, too-long}
+use Rattle.disassembly.proofs.Encoded.{lists}
 use Rattle.disassembly.proofs.Runs.{one-more, at-refusal, at-end, within, beyond}
 use Rattle.disassembly.proofs.listing.Needs as need
 
 pub returns-then-filter-gt-LIMIT : need.returns-then-filter-gt-LIMIT
 returns-then-filter-gt-LIMIT c =
-    beyond (c .args .filter .now) _ (c .if-filter-gt-LIMIT .taken) (c .in-Continue-extend-from-slice .ensures tt .items ∙ ap (λ (l : List ℕ). l ++ too-long) (c .new-out .ensures .items))
+    lists (beyond (c .args .filter .now) _ (c .if-filter-gt-LIMIT .taken) (c .in-Continue-extend-from-slice .ensures tt .items ∙ ap (λ (l : List ℕ). l ++ too-long) (c .new-out .ensures .items)))
 
 pub returns-in-rest : need.returns-in-rest
 returns-in-rest c =
@@ -21,7 +22,7 @@ returns-in-rest c =
     let rest = c .loop-rest .rest .now in
     let some : 0 < length rest = search needs in
     let first = subst (First (length filter - length rest) rest (vec-items (c .loop-rest .out)) (vec-items (c .push-first .last .out))) (c .in-rest .is) (c .in-Continue-after .ensures tt) in
-    within filter _ (c .if-filter-gt-LIMIT .left) (at-refusal filter rest (c .loop-rest .count) (vec-items (c .loop-rest .out)) (vec-items (c .push-first .last .out)) _ (first .0) some (c .loop-rest .inv .1) (first .1) (first .2) (c .in-Continue-push-count .ensures tt))
+    lists (within filter _ (c .if-filter-gt-LIMIT .left) (at-refusal filter rest (c .loop-rest .count) (vec-items (c .loop-rest .out)) (vec-items (c .push-first .last .out)) _ (first .0) some (c .loop-rest .inv .1) (first .1) (first .2) (c .in-Continue-push-count .ensures tt)))
 
 pub loop-rest-less : need.loop-rest-less
 loop-rest-less c =
@@ -42,4 +43,4 @@ pub returns : need.returns
 returns c =
     let rest = c .loop-rest .rest .now in
     let none : length rest ≡ 0 = search needs in
-    within (c .args .filter .now) _ (c .if-filter-gt-LIMIT .left) (at-end (c .args .filter .now) rest (c .loop-rest .count) (vec-items (c .loop-rest .out)) _ none (c .loop-rest .inv .1) (c .in-Continue-push-count-2 .ensures tt))
+    lists (within (c .args .filter .now) _ (c .if-filter-gt-LIMIT .left) (at-end (c .args .filter .now) rest (c .loop-rest .count) (vec-items (c .loop-rest .out)) _ none (c .loop-rest .inv .1) (c .in-Continue-push-count-2 .ensures tt)))

@@ -125,7 +125,10 @@ mod tests {
         check(in_eight(100_000_000) == *b"********")?;
         check_eq(justify(&mut [], 0), Err(ColumnsError::TooLong))?;
         let mut field = [b'*'; 20];
-        check_eq(justify(&mut field[0..19], u64::MAX), Err(ColumnsError::TooLong))?;
+        check_eq(
+            justify(&mut field[0..19], u64::MAX),
+            Err(ColumnsError::TooLong),
+        )?;
         check_eq(justify(&mut field, u64::MAX), Ok(()))?;
         check(field == *b"18446744073709551615")
     }
@@ -137,7 +140,10 @@ mod tests {
         check(out == *b"**  7*")?;
         check_eq(justify_at(&mut out, 4, 3, 7), Err(ColumnsError::NoRoom))?;
         check_eq(justify_at(&mut out, 7, 0, 7), Err(ColumnsError::NoRoom))?;
-        check_eq(justify_at(&mut out, usize::MAX, 1, 7), Err(ColumnsError::NoRoom))?;
+        check_eq(
+            justify_at(&mut out, usize::MAX, 1, 7),
+            Err(ColumnsError::NoRoom),
+        )?;
         check_eq(justify_at(&mut out, 0, 2, 100), Err(ColumnsError::TooLong))?;
         check(out == *b"**  7*")
     }

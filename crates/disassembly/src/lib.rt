@@ -11,10 +11,10 @@ ghost use Rattle.disassembly.specs.Listings.{hex-digit, hexes, gap, line, refu
 use columns::justify;
 use isa::DecodeError;
 use isa::Record;
+use isa::RecordDisplay;
 use isa::decode;
 use std::alloc::AllocError;
 use std::alloc::Global;
-use isa::RecordDisplay;
 
 // The most bytes that a filter has.
 const LIMIT: usize = 65_536;
@@ -63,7 +63,13 @@ fn front<'a>(bytes: &'a [u8], rest: &[u8]) -> &'a [u8]
 }
 
 // The line of an instruction.
-fn push_line(out: &mut Vec<u8>, heap: Global, at: usize, bytes: &[u8], record: Record) -> Result<(), AllocError>
+fn push_line(
+    out: &mut Vec<u8>,
+    heap: Global,
+    at: usize,
+    bytes: &[u8],
+    record: Record,
+) -> Result<(), AllocError>
     requires { ⌜ at ≤ 65536 ⌝ }
     ensures { λ r. ⌜ made r (λ _. vec-items (now (out .exit)) ≡ vec-items (now (out .entry)) ++ line at (now (bytes .entry)) (meaning «record»)) ⌝ }
 {
@@ -77,7 +83,12 @@ fn push_line(out: &mut Vec<u8>, heap: Global, at: usize, bytes: &[u8], record: R
 }
 
 // The line of a refusal.
-fn push_refusal(out: &mut Vec<u8>, heap: Global, at: usize, refusal: DecodeError) -> Result<(), AllocError>
+fn push_refusal(
+    out: &mut Vec<u8>,
+    heap: Global,
+    at: usize,
+    refusal: DecodeError,
+) -> Result<(), AllocError>
     requires { ⌜ at ≤ 65536 ⌝ }
     ensures { λ r. ⌜ made r (λ _. vec-items (now (out .exit)) ≡ vec-items (now (out .entry)) ++ refusal-line at refusal) ⌝ }
 {
@@ -99,7 +110,12 @@ fn push_count(out: &mut Vec<u8>, heap: Global, count: usize) -> Result<(), Alloc
 }
 
 // Lists the first instruction of some bytes and answers those after it; where it is refused, lists that.
-fn push_first<'a>(out: &mut Vec<u8>, heap: Global, at: usize, bytes: &'a [u8]) -> Result<Option<&'a [u8]>, AllocError>
+fn push_first<'a>(
+    out: &mut Vec<u8>,
+    heap: Global,
+    at: usize,
+    bytes: &'a [u8],
+) -> Result<Option<&'a [u8]>, AllocError>
     requires { ⌜ at ≤ 65536 ⌝ }
     ensures { λ r. ⌜ made r (First at (now (bytes .entry)) (vec-items (now (out .entry))) (vec-items (now (out .exit)))) ⌝ }
 {

@@ -79,19 +79,21 @@ undoes x s rest =
     let h : ℕ = getD (l .rest) 0 0 in
     let t : ℕ = getD (l .rest) 1 0 in
     let found : held low h t ≡ Some x =
-        ap (λ (o : Option Kind). of-kind o low h t) it ∙ ap (with-fields k) (ap (λ (n : ℕ). read f n h t) above ∙ u .back) in
+    ap (λ (o : Option Kind). of-kind o low h t) it ∙ ap (with-fields k) (ap (λ (n : ℕ). read f n h t) above ∙ u .back) in
     ap (λ (r : List ℕ). decoded (low ∷ r ++ rest)) (followed f (x .fields) .rest)
     ∙ first-of (long f) low h t rest x (length-told low k is) (followed f (x .fields) .none) found
 
 -- the other way: what bytes hold has a kind, and fields that its format reads
 held-parts : (low h t : ℕ) (x : Instruction) (P : Instruction → Type 0) → held low h t ≡ Some x → ((k : Kind) (y : Fields) → named low ≡ Some k → read (format k) (low / 2 ^ code-width (format k)) h t ≡ Some y → P (instruction k y)) → P x
 held-parts low h t x P e go =
-    elim (named low) as (λ o. named low ≡ o → of-kind o low h t ≡ Some x → P x)
-    [ None ↦ λ n d. let z : _≡_ {A = ℕ} 0 1 = cc in absurd (omega arith)
-    | Some k ↦ λ n d.
-        elim (read (format k) (low / 2 ^ code-width (format k)) h t) as (λ r. read (format k) (low / 2 ^ code-width (format k)) h t ≡ r → with-fields k r ≡ Some x → P x)
-        [ None ↦ λ r c. let z : _≡_ {A = ℕ} 0 1 = cc in absurd (omega arith)
-        | Some y ↦ λ r c. let q : instruction k y ≡ x = cc in subst P q (go k y n r) ] refl d ] refl e
+    elim (named low) as (λ o. named low ≡ o → of-kind o low h t ≡ Some x → P x) [
+      | None ↦ λ n d. let z : _≡_ {A = ℕ} 0 1 = cc in absurd (omega arith)
+      | Some k ↦ λ n d.
+          elim (read (format k) (low / 2 ^ code-width (format k)) h t) as (λ r. read (format k) (low / 2 ^ code-width (format k)) h t ≡ r → with-fields k r ≡ Some x → P x) [
+            | None ↦ λ r c. let z : _≡_ {A = ℕ} 0 1 = cc in absurd (omega arith)
+            | Some y ↦ λ r c. let q : instruction k y ≡ x = cc in subst P q (go k y n r)
+          ] refl d
+    ] refl e
 
 -- an instruction that bytes hold is sound, and is encoded as those bytes
 abbrev Again : ℕ → ℕ → ℕ → Instruction → Type 0
@@ -102,15 +104,16 @@ unfolding encoded
 again low h t x p q r e =
     held-parts low h t x (Again low h t) e
     (λ k y n d.
-        let f = format k in
-        let u : ℕ = low / 2 ^ code-width f in
-        let lt = above-lt f low p in
-        let is = code-of low k n in
-        let g = read-good f u h t y lt q r d in
-        (record { a = g .a; b = g .b; c = g .c; legal = g .legal },
-            ap (bytes-of f (code k)) (redo f u h t y lt q r d)
-            ∙ ap (λ (b : ℕ). b ∷ following (long f) h t) (ap (λ (o : ℕ). u * 2 ^ code-width f + o) (sym is) ∙ first-byte-whole f low)
-            ∙ ap (λ (b : Bool). low ∷ following b h t) (sym (length-told low k is))))
+    let f = format k in
+    let u : ℕ = low / 2 ^ code-width f in
+    let lt = above-lt f low p in
+    let is = code-of low k n in
+    let g = read-good f u h t y lt q r d in (
+      record { a = g .a; b = g .b; c = g .c; legal = g .legal },
+      ap (bytes-of f (code k)) (redo f u h t y lt q r d)
+          ∙ ap (λ (b : ℕ). b ∷ following (long f) h t) (ap (λ (o : ℕ). u * 2 ^ code-width f + o) (sym is) ∙ first-byte-whole f low)
+          ∙ ap (λ (b : Bool). low ∷ following b h t) (sym (length-told low k is)),
+    ))
 
 -- the instruction's bytes and the rest are the string
 abbrev Whole : List ℕ → Instruction → List ℕ → Type 0
@@ -119,11 +122,12 @@ Whole s x rest = Sound x × (encoded x ++ rest ≡ s)
 whole : (b : Bool) (low h t : ℕ) (r s : List ℕ) (x : Instruction) (rest : List ℕ) → low < 256 → h < 256 → t < 256 → eqb (low % 2) 1 ≡ b → answered s (held low h t) r ≡ gives (Ok x) rest → low ∷ following b h t ++ r ≡ s → Whole s x rest
 whole b low h t r s x rest p q v e d w =
     let a = answered-ok s (held low h t) r x rest d in
-    let g = again low h t x p q v (a .0) in
-    (g .0,
-        ap (λ (l : List ℕ). l ++ rest) (g .1 ∙ ap (λ (c : Bool). low ∷ following c h t) e)
-        ∙ ap (λ (l : List ℕ). low ∷ following b h t ++ l) (sym (a .1))
-        ∙ w)
+    let g = again low h t x p q v (a .0) in (
+      g .0,
+      ap (λ (l : List ℕ). l ++ rest) (g .1 ∙ ap (λ (c : Bool). low ∷ following c h t) e)
+          ∙ ap (λ (l : List ℕ). low ∷ following b h t ++ l) (sym (a .1))
+          ∙ w,
+    )
 
 pub redoes : Encoding-undoes-decoding
 unfolding decoded
@@ -131,14 +135,16 @@ redoes [] b x rest e = absurd (never [] Empty x rest e)
 redoes (low ∷ []) b x rest e = absurd (never (low ∷ []) CutShort x rest e)
 redoes (low ∷ h ∷ []) b x rest e =
     let s : List ℕ = low ∷ h ∷ [] in
-    elim (eqb (low % 2) 1) as (λ v. eqb (low % 2) 1 ≡ v → decoded-from s (cond v (Err CutShort) (Ok (cut (Two low h) []))) ≡ gives (Ok x) rest → Whole s x rest)
-    [ true ↦ λ p d. absurd (never s CutShort x rest d)
-    | false ↦ λ p d. whole false low h 0 [] s x rest (b .0) (b .1 .0) (omega arith) p d refl ] refl e
+    elim (eqb (low % 2) 1) as (λ v. eqb (low % 2) 1 ≡ v → decoded-from s (cond v (Err CutShort) (Ok (cut (Two low h) []))) ≡ gives (Ok x) rest → Whole s x rest) [
+      | true ↦ λ p d. absurd (never s CutShort x rest d)
+      | false ↦ λ p d. whole false low h 0 [] s x rest (b .0) (b .1 .0) (omega arith) p d refl
+    ] refl e
 redoes (low ∷ h ∷ t ∷ r) b x rest e =
     let s : List ℕ = low ∷ h ∷ t ∷ r in
-    elim (eqb (low % 2) 1) as (λ v. eqb (low % 2) 1 ≡ v → decoded-from s (cond v (Ok (cut (Three low h t) r)) (Ok (cut (Two low h) (t ∷ r)))) ≡ gives (Ok x) rest → Whole s x rest)
-    [ true ↦ λ p d. whole true low h t r s x rest (b .0) (b .1 .0) (b .1 .1 .0) p d refl
-    | false ↦ λ p d. whole false low h 0 (t ∷ r) s x rest (b .0) (b .1 .0) (omega arith) p d refl ] refl e
+    elim (eqb (low % 2) 1) as (λ v. eqb (low % 2) 1 ≡ v → decoded-from s (cond v (Ok (cut (Three low h t) r)) (Ok (cut (Two low h) (t ∷ r)))) ≡ gives (Ok x) rest → Whole s x rest) [
+      | true ↦ λ p d. whole true low h t r s x rest (b .0) (b .1 .0) (b .1 .1 .0) p d refl
+      | false ↦ λ p d. whole false low h 0 (t ∷ r) s x rest (b .0) (b .1 .0) (omega arith) p d refl
+    ] refl e
 
 pub examples : Decoding-examples
 unfolding named decoded

@@ -3,5 +3,4 @@ ghost use Rattle.isa.specs.Laws.{Decoding-examples};
 
 pub fn decoding_examples_hold()
     ensures { λ _. ⌜ Decoding-examples ⌝ }
-{
-}
+{}

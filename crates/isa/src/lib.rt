@@ -4,6 +4,10 @@ mod refusal;
 mod round_trip;
 
 pub use examples::decoding_examples_hold;
+pub use fields::RegisterNumber;
+pub use fields::RegisterNumberDebug;
+pub use fields::RegisterNumberDisplay;
+pub use fields::RegisterNumberPartialEq;
 pub use opcodes::Format;
 pub use opcodes::FormatDebug;
 pub use opcodes::FormatPartialEq;
@@ -20,15 +24,11 @@ pub use records::EncodeErrorPartialEq;
 pub use records::Image;
 pub use records::Record;
 pub use records::RecordDebug;
+pub use records::RecordDisplay;
 pub use records::RecordError;
 pub use records::RecordErrorDebug;
 pub use records::RecordErrorPartialEq;
-pub use records::RecordDisplay;
 pub use records::RecordPartialEq;
-pub use fields::RegisterNumber;
-pub use fields::RegisterNumberDebug;
-pub use fields::RegisterNumberDisplay;
-pub use fields::RegisterNumberPartialEq;
 pub use records::decode;
 pub use records::split;
 pub use refusal::CodecError;
@@ -87,7 +87,9 @@ mod tests {
 
     // Kinds times spare bits of the first byte times second bytes, format by format.
     const TWO_BYTES: u32 = 9 * 256 + 4 * 4 * 256 + 3 * 256 + 2 * 16 + 2 * 8 * 256 + 2 * 4 * 256 + 1;
+
     const THREE_BYTES: u32 = 4 * 4 * 256 + 4 * 16 + 6 * 4 * 256 + 5 * 4 * 256;
+
     const SMALL_THIRD: u32 = 8 * 256 + 3 * 256;
 
     #[test]

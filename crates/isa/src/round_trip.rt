@@ -4,12 +4,12 @@ ghost use Rattle.records.specs.Codec.{decoded, encoded, laid-over};
 ghost use Rattle.isa.specs.Laws.{Decoding-undoes-encoding, Encoding-undoes-decoding};
 ghost use Rattle.records.specs.Records.{meaning, outcome};
 ghost use Rattle.isa.specs.RoundTrips.{through, copied-answer, copied-over};
-use records::Record;
-use records::decode;
 use crate::refusal::CodecError;
 use crate::refusal::CodecErrorFromDecode;
 use crate::refusal::CodecErrorFromEncode;
 use records::EncodeError;
+use records::Record;
+use records::decode;
 
 // Encodes a record at the start of a buffer and decodes what then stands there: the record comes back.
 pub fn decode_encoded(record: Record, buffer: &mut [u8]) -> Result<Record, EncodeError>

@@ -260,13 +260,29 @@ impl Kind {
         ensures { λ r. ⌜ r ≡ format self ⌝ }
     {
         match self {
-            Kind::Add | Kind::Sub | Kind::And | Kind::Xor | Kind::Or | Kind::Lsl | Kind::Lsr | Kind::Asr => Format::RegRegReg,
+            Kind::Add
+            | Kind::Sub
+            | Kind::And
+            | Kind::Xor
+            | Kind::Or
+            | Kind::Lsl
+            | Kind::Lsr
+            | Kind::Asr => Format::RegRegReg,
             Kind::Lsli | Kind::Lsri | Kind::Asri => Format::RegRegShift,
             Kind::Addi | Kind::Andi | Kind::Xori | Kind::Ori => Format::RegRegImm,
             Kind::Li => Format::RegLongImm,
-            Kind::Beq | Kind::Bne | Kind::Blt | Kind::Bltu | Kind::Ble | Kind::Bleu => Format::Branch,
+            Kind::Beq | Kind::Bne | Kind::Blt | Kind::Bltu | Kind::Ble | Kind::Bleu =>
+                Format::Branch,
             Kind::Lw | Kind::Lb | Kind::Lbu | Kind::Sw | Kind::Sb => Format::Memory,
-            Kind::Mov | Kind::Add2 | Kind::Sub2 | Kind::And2 | Kind::Xor2 | Kind::Or2 | Kind::Lsl2 | Kind::Lsr2 | Kind::Asr2 => Format::RegReg,
+            Kind::Mov
+            | Kind::Add2
+            | Kind::Sub2
+            | Kind::And2
+            | Kind::Xor2
+            | Kind::Or2
+            | Kind::Lsl2
+            | Kind::Lsr2
+            | Kind::Asr2 => Format::RegReg,
             Kind::Addi2 | Kind::Andi2 | Kind::Lsi | Kind::Lui => Format::RegImm,
             Kind::Lsli2 | Kind::Lsri2 | Kind::Asri2 => Format::RegShift,
             Kind::Jalr | Kind::Jr => Format::Reg,

@@ -5,5 +5,4 @@ ghost use Rattle.opcodes.specs.Laws.{Table-rule, Table-names-130};
 pub fn table_keeps_its_rule()
     ensures rule { λ _. ⌜ Table-rule ⌝ }
     ensures many { λ _. ⌜ Table-names-130 ⌝ }
-{
-}
+{}

@@ -57,11 +57,13 @@ shorter [] x rest e = absurd (never [] Empty x rest e)
 shorter (low ∷ []) x rest e = absurd (never (low ∷ []) CutShort x rest e)
 shorter (low ∷ h ∷ []) x rest e =
     let s : List ℕ = low ∷ h ∷ [] in
-    elim (eqb (low % 2) 1) as (λ v. decoded-from s (cond v (Err CutShort) (Ok (cut (Two low h) []))) ≡ gives (Ok x) rest → length rest < length s)
-    [ true ↦ λ d. absurd (never s CutShort x rest d)
-    | false ↦ λ d. let r = ap length (answered-ok s (held low h 0) [] x rest d .1) in omega arith ] e
+    elim (eqb (low % 2) 1) as (λ v. decoded-from s (cond v (Err CutShort) (Ok (cut (Two low h) []))) ≡ gives (Ok x) rest → length rest < length s) [
+      | true ↦ λ d. absurd (never s CutShort x rest d)
+      | false ↦ λ d. let r = ap length (answered-ok s (held low h 0) [] x rest d .1) in omega arith
+    ] e
 shorter (low ∷ h ∷ t ∷ r) x rest e =
     let s : List ℕ = low ∷ h ∷ t ∷ r in
-    elim (eqb (low % 2) 1) as (λ v. decoded-from s (cond v (Ok (cut (Three low h t) r)) (Ok (cut (Two low h) (t ∷ r)))) ≡ gives (Ok x) rest → length rest < length s)
-    [ true ↦ λ d. let q = ap length (answered-ok s (held low h t) r x rest d .1) in omega arith
-    | false ↦ λ d. let q = ap length (answered-ok s (held low h 0) (t ∷ r) x rest d .1) in omega arith ] e
+    elim (eqb (low % 2) 1) as (λ v. decoded-from s (cond v (Ok (cut (Three low h t) r)) (Ok (cut (Two low h) (t ∷ r)))) ≡ gives (Ok x) rest → length rest < length s) [
+      | true ↦ λ d. let q = ap length (answered-ok s (held low h t) r x rest d .1) in omega arith
+      | false ↦ λ d. let q = ap length (answered-ok s (held low h 0) (t ∷ r) x rest d .1) in omega arith
+    ] e

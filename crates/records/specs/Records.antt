@@ -38,8 +38,8 @@ abbrev pub taken : Format → ℕ → ℕ → ℕ → ℤ → Result Fields Reco
 taken f a b c i =
     cond (registers a b c)
     (cond (lacking-zero (shape f) a b c i)
-        (cond (in-range (shape f) i) (cond (even-enough (shape f) i) (Ok (fields a b c i)) (Err OddOffset)) (Err OutOfRange))
-        (Err LackingField))
+    (cond (in-range (shape f) i) (cond (even-enough (shape f) i) (Ok (fields a b c i)) (Err OddOffset)) (Err OutOfRange))
+    (Err LackingField))
     (Err NoSuchRegister)
 
 abbrev pub with-kind : Kind → Result Fields RecordError → Result Instruction RecordError

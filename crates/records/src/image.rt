@@ -3,8 +3,8 @@ ghost use mathlib.Core.Path.{_≡_};
 ghost use Rattle.std.specs.Results.{Cases};
 ghost use Rattle.std.specs.declared.result.Result.the-variants.{Ok, Err};
 ghost use Rattle.records.specs.Codec.{split, cut};
-use fields::is_long;
 use crate::refusal::DecodeError;
+use fields::is_long;
 
 #[derive(Clone, Copy)]
 pub enum Image {

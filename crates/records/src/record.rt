@@ -1,11 +1,11 @@
 // A record: one instruction as kind, registers and immediate. None exists whose fields its kind does not allow.
 ghost use Rattle.records.specs.Instructions.{Legal};
-use opcodes::Kind;
 use crate::operands::Operands;
-use opcodes::KindDebug;
-use opcodes::KindPartialEq;
 use crate::operands::OperandsDebug;
 use crate::operands::OperandsPartialEq;
+use opcodes::Kind;
+use opcodes::KindDebug;
+use opcodes::KindPartialEq;
 
 pub(crate) mod codec;
 mod make;

@@ -17,7 +17,12 @@ impl Shape {
     const fn new(registers: u8, lowest: i16, highest: i16, even: bool) -> Shape
         ensures { λ r. ⌜ r ≡ entry registers lowest highest even ⌝ }
     {
-        Shape { registers, lowest, highest, even }
+        Shape {
+            registers,
+            lowest,
+            highest,
+            even,
+        }
     }
 
     pub(crate) fn of(format: Format) -> Shape
@@ -44,7 +49,9 @@ impl Shape {
     fn lacking_registers_zero(self, a: u8, b: u8, c: u8) -> bool
         ensures { λ r. ⌜ r ≡ lacking-registers-zero self a b c ⌝ }
     {
-        (self.registers > 0 || a == 0) && (self.registers > 1 || b == 0) && (self.registers > 2 || c == 0)
+        (self.registers > 0 || a == 0)
+            && (self.registers > 1 || b == 0)
+            && (self.registers > 2 || c == 0)
     }
 
     // Whether the immediate is zero if it is lacking.

@@ -2,9 +2,9 @@
 ghost use Rattle.std.specs.declared.option.Option.the-variants.{Some};
 ghost use Rattle.records.specs.Records.{meaning};
 ghost use Rattle.records.specs.Texts.{text};
-use opcodes::Format;
 use crate::record::Record;
 use fields::RegisterNumberDisplay;
+use opcodes::Format;
 use std::fmt;
 
 pub impl fmt::Display for Record as RecordDisplay {
@@ -17,10 +17,16 @@ pub impl fmt::Display for Record as RecordDisplay {
         let imm = self.imm();
         match kind.format() {
             Format::RegRegReg => write!(f, "{name} {a}, {b}, {c}"),
-            Format::RegRegShift | Format::RegRegImm | Format::Branch => write!(f, "{name} {a}, {b}, {imm}"),
+            Format::RegRegShift | Format::RegRegImm | Format::Branch => write!(
+                f,
+                "{name} {a}, {b}, {imm}"
+            ),
             Format::Memory => write!(f, "{name} {a}, {imm}({b})"),
             Format::RegReg => write!(f, "{name} {a}, {b}"),
-            Format::RegLongImm | Format::RegImm | Format::RegShift => write!(f, "{name} {a}, {imm}"),
+            Format::RegLongImm | Format::RegImm | Format::RegShift => write!(
+                f,
+                "{name} {a}, {imm}"
+            ),
             Format::Reg => write!(f, "{name} {a}"),
             Format::Jump => write!(f, "{name} {imm}"),
             Format::Stack => write!(f, "{name} {a}, {imm}(x1)"),

@@ -19,8 +19,7 @@ pub loop-rest-again : need.loop-rest-again
 loop-rest-again c =
     let inv = c .loop-rest .inv in
     let some = decimal-some (c .loop-rest .rest) (inv .3) in
-    let less = shorter (c .loop-rest .rest) (c .loop-rest-test .taken) (inv .3) in
-    (
+    let less = shorter (c .loop-rest .rest) (c .loop-rest-test .taken) (inv .3) in (
       one-more (c .loop-rest .rest) (c .loop-rest .at) (c .loop-rest .field) _ (c .loop-rest-test .taken) (inv .3) (omega arith) (inv .2) (inv .0),
       omega arith,
       simp length-set (omega arith),
@@ -43,7 +42,7 @@ returns c =
     let w = last-one (c .loop-rest .rest) at l _ (c .loop-rest-test .left) one (inv .2) (inv .0) in
     record {
       begin = begins (set l (at - 1) (48 + c .loop-rest .rest)) _ (at - 1) (simp length-set (omega arith)) w
-      ∙ length-set l (at - 1) (48 + c .loop-rest .rest)
-      ∙ c .loop-rest .kept .field;
+          ∙ length-set l (at - 1) (48 + c .loop-rest .rest)
+          ∙ c .loop-rest .kept .field;
       written = w;
     }

@@ -5,11 +5,11 @@ ghost use Rattle.records.specs.Codec.{held, held-in, gives, decoded, encoded, 
 ghost use Rattle.records.specs.Records.{meaning, outcome};
 use crate::image::Image;
 use crate::image::split;
-use opcodes::lookup;
 use crate::operands::Operands;
 use crate::record::Record;
 use crate::refusal::DecodeError;
 use crate::refusal::EncodeError;
+use opcodes::lookup;
 
 fn held(low: u8, high: u8, top: u8) -> Option<Record>
     ensures { λ r. ⌜ mapped meaning r ≡ held low high top ⌝ }

@@ -3,19 +3,23 @@ ghost use mathlib.Core.Path.{_≡_};
 ghost use mathlib.Core.Bool.{true, false};
 ghost use Rattle.std.specs.Options.{Cases as BySome};
 ghost use Rattle.records.specs.Records.{made, outcome, outcome-values, registers, taken};
-use opcodes::Format;
-use opcodes::Kind;
 use crate::operands::Operands;
 use crate::record::Record;
 use crate::refusal::RecordError;
-use fields::RegisterNumber;
 use crate::shape::Shape;
+use fields::RegisterNumber;
+use opcodes::Format;
+use opcodes::Kind;
 
 // Three registers by their numbers, if each is at most 15.
 fn registers(a: u8, b: u8, c: u8) -> Option<(RegisterNumber, RegisterNumber, RegisterNumber)>
     ensures { λ r. ⌜ BySome r (registers a b c ≡ false) (λ p. (registers a b c ≡ true) × (p .0 .number ≡ a) × (p .1 .number ≡ b) × (p .2 .number ≡ c)) ⌝ }
 {
-    Some((RegisterNumber::new(a)?, RegisterNumber::new(b)?, RegisterNumber::new(c)?))
+    Some((
+        RegisterNumber::new(a)?,
+        RegisterNumber::new(b)?,
+        RegisterNumber::new(c)?,
+    ))
 }
 
 // The operands of a format, of numbers.
@@ -36,7 +40,12 @@ fn operands(format: Format, a: u8, b: u8, c: u8, imm: i32) -> Result<Operands, R
     if !shape.even_enough(imm) {
         return Err(RecordError::OddOffset);
     }
-    Ok(Operands { a: x, b: y, c: z, imm: imm as i16 })
+    Ok(Operands {
+        a: x,
+        b: y,
+        c: z,
+        imm: imm as i16,
+    })
 }
 
 impl Record {

@@ -1,8 +1,8 @@
 // The parts of a record.
 ghost use mathlib.Core.Path.{_≡_};
-use opcodes::Kind;
 use crate::record::Record;
 use fields::RegisterNumber;
+use opcodes::Kind;
 
 impl Record {
     pub fn kind(self) -> Kind

@@ -15,8 +15,8 @@ returns-in-Break-encode c =
     let p = err-from-errBy (c .from-residual .result) (c .from-residual .ensures .1) in
     record {
       answer = ap outcome (p .1)
-      ∙ ap (λ (e : EncodeError). Err e) (p .2)
-      ∙ through-refused (meaning (c .args .record)) (c .args .buffer .now) (c .in-Break-encode .field-0 .0) (sym (c .encode .ensures .answer) ∙ c .in-Break-encode .was tt);
+          ∙ ap (λ (e : EncodeError). Err e) (p .2)
+          ∙ through-refused (meaning (c .args .record)) (c .args .buffer .now) (c .in-Break-encode .field-0 .0) (sym (c .encode .ensures .answer) ∙ c .in-Break-encode .was tt);
       after = c .encode .ensures .after;
       law = undoes;
     }

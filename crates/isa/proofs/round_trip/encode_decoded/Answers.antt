@@ -32,9 +32,9 @@ returns-in-Break-encode c =
     let bytes = bytes-from s (λ i. omega (arith, c .typed .bytes i)) in
     record {
       answer = p .1
-      ∙ ap (λ e. Err e) (p .2)
-      ∙ ap as-codec (sym (c .in-Break-encode .was tt) ∙ c .encode .ensures .answer)
-      ∙ copied-laid s x rest bytes found (c .args .buffer .now);
+          ∙ ap (λ e. Err e) (p .2)
+          ∙ ap as-codec (sym (c .in-Break-encode .was tt) ∙ c .encode .ensures .answer)
+          ∙ copied-laid s x rest bytes found (c .args .buffer .now);
       after = c .encode .ensures .after ∙ copied-bytes s x rest bytes found (c .args .buffer .now);
       law = redoes;
     }

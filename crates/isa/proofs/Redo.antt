@@ -16,6 +16,7 @@ use Rattle.opcodes.specs.Formats.{code-width}
 use Rattle.records.specs.Instructions.{Fields, fields}
 use Rattle.records.specs.Layouts.{read, Layout, layout}
 use Rattle.records.proofs.Legal.{at-some, at-only}
+use Rattle.records.proofs.Splits.{following}
 use Rattle.opcodes.proofs.Named.{long}
 
 -- raw bits stand for a number whose low bits they are
@@ -27,11 +28,6 @@ six n h = grind (arith, tells)
 
 eleven : (n : ℕ) → n < 2048 → bits (signed 1024 n) % 2048 ≡ n
 eleven n h = grind (arith, tells)
-
--- the bytes after the first: two of three, or one of two
-abbrev pub following : Bool → ℕ → ℕ → List ℕ
-following true h t = h ∷ t ∷ []
-following false h t = h ∷ []
 
 abbrev pub laid-as : Bool → ℕ → ℕ → ℕ → Layout
 laid-as b u h t = record { above = u; rest = following b h t }

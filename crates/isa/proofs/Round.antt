@@ -13,21 +13,20 @@ use Rattle.std.specs.declared.result.Result.{Result}
 use Rattle.std.specs.declared.result.Result.the-variants.{Ok, Err}
 use Rattle.opcodes.specs.declared.format.Format.{Format}
 use Rattle.opcodes.specs.declared.format.Format.the-variants.{RegRegReg, RegRegShift, RegRegImm, RegLongImm, Branch, Memory, RegReg, RegImm, RegShift, Reg, Jump, Stack, Bare}
-use Rattle.records.specs.declared.image.Image.the-variants.{Two, Three}
 use Rattle.opcodes.specs.declared.kind.Kind.{Kind}
 use Rattle.records.specs.declared.refusal.DecodeError.{DecodeError}
 use Rattle.records.specs.declared.refusal.DecodeError.the-variants.{Empty, CutShort, Undefined}
-use Rattle.records.specs.Codec.{Cut, cut, split, with-fields, of-kind, held, held-in, Decoded, gives, answered, decoded-from, decoded, encoded}
+use Rattle.records.specs.Codec.{Cut, two, three, cut, split, with-fields, of-kind, held, held-in, Decoded, gives, answered, decoded-from, decoded, encoded}
 use Rattle.opcodes.specs.Formats.{code-width}
 use Rattle.records.specs.Instructions.{Fields, Instruction, instruction, Sound}
 use Rattle.opcodes.specs.Kinds.{code, format}
 use Rattle.isa.specs.Laws.{Bytes, Decoding-undoes-encoding, Encoding-undoes-decoding, Decoding-examples}
 use Rattle.records.specs.Layouts.{read, Layout, layout, bytes-of}
 use Rattle.opcodes.specs.Table.{named}
-use Rattle.records.proofs.Legal.{Good, read-good}
-use Rattle.records.proofs.Splits.{answered-ok, never}
+use Rattle.records.proofs.Legal.{read-fitting}
+use Rattle.records.proofs.Splits.{following, apart}
 use Rattle.opcodes.proofs.Named.{long, code-of, named-by, code-lt, length-told, first-byte-mod, first-byte-div, first-byte-lt, first-byte-whole}
-use Rattle.isa.proofs.Redo.{following, laid-as, redo}
+use Rattle.isa.proofs.Redo.{laid-as, redo}
 use Rattle.isa.proofs.Undo.{Undone, undo}
 use Rattle.opcodes.proofs.Widths.{above-lt}
 
@@ -36,13 +35,13 @@ first-of : (b : Bool) (low h t : ℕ) (rest : List ℕ) (x : Instruction) → eq
 unfolding decoded
 first-of true low h t rest x e z d =
     let s : List ℕ = low ∷ h ∷ t ∷ rest in
-    ap (decoded-from s) (cond-true (eqb (low % 2) 1) (Ok (cut (Three low h t) rest)) (Ok (cut (Two low h) (t ∷ rest))) e) ∙ ap (λ (o : Option Instruction). answered s o rest) d
+    ap (decoded-from s) (cond-true (eqb (low % 2) 1) (Ok (cut (three low h t) rest)) (Ok (cut (two low h) (t ∷ rest))) e) ∙ ap (λ (o : Option Instruction). answered s o rest) d
 first-of false low h t [] x e z d =
     let s : List ℕ = low ∷ h ∷ [] in
-    ap (decoded-from s) (cond-false (eqb (low % 2) 1) (Err CutShort) (Ok (cut (Two low h) [])) e) ∙ ap (λ (o : Option Instruction). answered s o []) (ap (held low h) (sym (z refl)) ∙ d)
+    ap (decoded-from s) (cond-false (eqb (low % 2) 1) (Err CutShort) (Ok (cut (two low h) [])) e) ∙ ap (λ (o : Option Instruction). answered s o []) (ap (held low h) (sym (z refl)) ∙ d)
 first-of false low h t (n ∷ rest) x e z d =
     let s : List ℕ = low ∷ h ∷ n ∷ rest in
-    ap (decoded-from s) (cond-false (eqb (low % 2) 1) (Ok (cut (Three low h n) rest)) (Ok (cut (Two low h) (n ∷ rest))) e) ∙ ap (λ (o : Option Instruction). answered s o (n ∷ rest)) (ap (held low h) (sym (z refl)) ∙ d)
+    ap (decoded-from s) (cond-false (eqb (low % 2) 1) (Ok (cut (three low h n) rest)) (Ok (cut (two low h) (n ∷ rest))) e) ∙ ap (λ (o : Option Instruction). answered s o (n ∷ rest)) (ap (held low h) (sym (z refl)) ∙ d)
 
 -- what follows the first byte, by its parts
 pub record Followed (f : Format) (x : Fields) : Type 0 where
@@ -70,7 +69,7 @@ undoes x s rest =
     let k = x .kind in
     let f = format k in
     let l = layout f (x .fields) in
-    let u = undo f (x .fields) (record { a = s .a; b = s .b; c = s .c; legal = s .legal }) in
+    let u = undo f (x .fields) s in
     let low : ℕ = l .above * 2 ^ code-width f + code k in
     let small = code-lt k in
     let is : low % 2 ^ code-width f ≡ code k = first-byte-mod f (l .above) (code k) small in
@@ -108,43 +107,23 @@ again low h t x p q r e =
     let u : ℕ = low / 2 ^ code-width f in
     let lt = above-lt f low p in
     let is = code-of low k n in
-    let g = read-good f u h t y lt q r d in (
+    let g = read-fitting f u h t y lt q r d in (
       record { a = g .a; b = g .b; c = g .c; legal = g .legal },
       ap (bytes-of f (code k)) (redo f u h t y lt q r d)
           ∙ ap (λ (b : ℕ). b ∷ following (long f) h t) (ap (λ (o : ℕ). u * 2 ^ code-width f + o) (sym is) ∙ first-byte-whole f low)
           ∙ ap (λ (b : Bool). low ∷ following b h t) (sym (length-told low k is)),
     ))
 
--- the instruction's bytes and the rest are the string
-abbrev Whole : List ℕ → Instruction → List ℕ → Type 0
-Whole s x rest = Sound x × (encoded x ++ rest ≡ s)
-
-whole : (b : Bool) (low h t : ℕ) (r s : List ℕ) (x : Instruction) (rest : List ℕ) → low < 256 → h < 256 → t < 256 → eqb (low % 2) 1 ≡ b → answered s (held low h t) r ≡ gives (Ok x) rest → low ∷ following b h t ++ r ≡ s → Whole s x rest
-whole b low h t r s x rest p q v e d w =
-    let a = answered-ok s (held low h t) r x rest d in
-    let g = again low h t x p q v (a .0) in (
-      g .0,
-      ap (λ (l : List ℕ). l ++ rest) (g .1 ∙ ap (λ (c : Bool). low ∷ following c h t) e)
-          ∙ ap (λ (l : List ℕ). low ∷ following b h t ++ l) (sym (a .1))
-          ∙ w,
-    )
+all-bytes : (b : Bool) (low h t : ℕ) (rest : List ℕ) → (b ≡ false → t ≡ 0) → Bytes (low ∷ following b h t ++ rest) → (low < 256) × (h < 256) × (t < 256)
+all-bytes true low h t rest z b = (b .0, b .1 .0, b .1 .1 .0)
+all-bytes false low h t rest z b = (b .0, b .1 .0, omega (arith, z refl))
 
 pub redoes : Encoding-undoes-decoding
-unfolding decoded
-redoes [] b x rest e = absurd (never [] Empty x rest e)
-redoes (low ∷ []) b x rest e = absurd (never (low ∷ []) CutShort x rest e)
-redoes (low ∷ h ∷ []) b x rest e =
-    let s : List ℕ = low ∷ h ∷ [] in
-    elim (eqb (low % 2) 1) as (λ v. eqb (low % 2) 1 ≡ v → decoded-from s (cond v (Err CutShort) (Ok (cut (Two low h) []))) ≡ gives (Ok x) rest → Whole s x rest) [
-      | true ↦ λ p d. absurd (never s CutShort x rest d)
-      | false ↦ λ p d. whole false low h 0 [] s x rest (b .0) (b .1 .0) (omega arith) p d refl
-    ] refl e
-redoes (low ∷ h ∷ t ∷ r) b x rest e =
-    let s : List ℕ = low ∷ h ∷ t ∷ r in
-    elim (eqb (low % 2) 1) as (λ v. eqb (low % 2) 1 ≡ v → decoded-from s (cond v (Ok (cut (Three low h t) r)) (Ok (cut (Two low h) (t ∷ r)))) ≡ gives (Ok x) rest → Whole s x rest) [
-      | true ↦ λ p d. whole true low h t r s x rest (b .0) (b .1 .0) (b .1 .1 .0) p d refl
-      | false ↦ λ p d. whole false low h 0 (t ∷ r) s x rest (b .0) (b .1 .0) (omega arith) p d refl
-    ] refl e
+redoes s b x rest e =
+    let a = apart s x rest e in
+    let p = all-bytes (a .long) (a .low) (a .high) (a .top) rest (a .none) (subst Bytes (sym (a .whole)) b) in
+    let g = again (a .low) (a .high) (a .top) x (p .0) (p .1) (p .2) (a .holds) in
+    (g .0, ap (λ (l : List ℕ). l ++ rest) (g .1 ∙ ap (λ (c : Bool). a .low ∷ following c (a .high) (a .top)) (a .told)) ∙ a .whole)
 
 pub examples : Decoding-examples
 unfolding named decoded

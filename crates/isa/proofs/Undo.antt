@@ -17,10 +17,9 @@ use Rattle.opcodes.specs.declared.format.Format.the-variants.{RegRegReg, RegReg
 use Rattle.fields.specs.Bits.{signed, bits}
 use Rattle.opcodes.specs.Formats.{code-width}
 use Rattle.records.specs.Shapes.{shape, lacking-zero, in-range, even-enough}
-use Rattle.records.specs.Instructions.{Fields, fields, legal}
+use Rattle.records.specs.Instructions.{Fields, fields, legal, Fitting}
 use Rattle.records.specs.Layouts.{only, read, layout, halves}
 use Rattle.opcodes.proofs.Below.{below}
-use Rattle.records.proofs.Legal.{Good}
 
 -- a number in range is what its low bits stand for
 ten : (i : ℤ) → in-range (shape RegRegImm) i ≡ true → signed 512 (bits i % 1024) ≡ i
@@ -54,7 +53,7 @@ record Facts (f : Format) (x : Fields) : Type 0 where
   range : in-range (shape f) (x .imm) ≡ true
   evens : even-enough (shape f) (x .imm) ≡ true
 
-facts : (f : Format) (x : Fields) → Good f x → Facts f x
+facts : (f : Format) (x : Fields) → Fitting f x → Facts f x
 unfolding legal
 facts f x g =
     let p = and-parts (lacking-zero (shape f) (x .a) (x .b) (x .c) (x .imm)) (in-range (shape f) (x .imm) && even-enough (shape f) (x .imm)) (g .legal) in
@@ -118,5 +117,5 @@ undone Stack x g =
     record { above = omega arith; back = same (omega arith) (omega arith) (omega arith) (ap pos (omega arith) ∙ n .is) }
 undone Bare x g = record { above = omega arith; back = grind (arith, tells) }
 
-pub undo : (f : Format) (x : Fields) → Good f x → Undone f x
+pub undo : (f : Format) (x : Fields) → Fitting f x → Undone f x
 undo f x g = undone f x (facts f x g)

@@ -17,12 +17,9 @@ use Rattle.opcodes.specs.declared.format.Format.the-variants.{RegRegReg, RegReg
 use Rattle.fields.specs.Bits.{signed}
 use Rattle.opcodes.specs.Formats.{code-width}
 use Rattle.records.specs.Shapes.{shape, lacking-zero, in-range, even-enough}
-use Rattle.records.specs.Instructions.{Fields, fields, legal}
+use Rattle.records.specs.Instructions.{Fields, fields, legal, Lawful, Fitting}
 use Rattle.records.specs.Layouts.{only, read}
 use Rattle.records.specs.Records.{registers, taken}
-
-abbrev pub Lawful : Format → Fields → Type 0
-Lawful f x = legal f x ≡ true
 
 -- what holds of the fields that are read holds of what comes out
 pub at-some : (P : Fields → Type 0) (y x : Fields) → Some y ≡ Some x → P y → P x
@@ -32,41 +29,35 @@ pub at-only : (P : Fields → Type 0) (b : Bool) (y x : Fields) → only b y ≡
 at-only P true y x e h = at-some P y x e (h refl)
 at-only P false y x e h = let z : _≡_ {A = ℕ} 0 1 = cc in absurd (omega arith)
 
--- registers below 16, and what the format asks
-pub record Good (f : Format) (x : Fields) : Type 0 where
-  pub a : x .a < 16
-  pub b : x .b < 16
-  pub c : x .c < 16
-  pub legal : Lawful f x
-
-pub read-good : (f : Format) (u h t : ℕ) (x : Fields) → u < 2 ^ (8 - code-width f) → h < 256 → t < 256 → read f u h t ≡ Some x → Good f x
+-- the fields that bytes hold
+pub read-fitting : (f : Format) (u h t : ℕ) (x : Fields) → u < 2 ^ (8 - code-width f) → h < 256 → t < 256 → read f u h t ≡ Some x → Fitting f x
 unfolding legal
-read-good RegRegReg u h t x p q r e =
-    at-only (Good RegRegReg) (ltb t 16) (fields (h % 16) (h / 16) t (pos 0)) x e (λ d. record { a = omega arith; b = omega arith; c = omega (arith, ltb-true t 16 d); legal = grind (arith, tells) })
-read-good RegRegShift u h t x p q r e =
-    at-only (Good RegRegShift) (ltb t 16) (fields (h % 16) (h / 16) 0 (pos t)) x e (λ d. record { a = omega arith; b = omega arith; c = omega arith; legal = grind (arith, tells) })
-read-good RegRegImm u h t x p q r e =
-    at-some (Good RegRegImm) (fields (h % 16) (h / 16) 0 (signed 512 (u * 256 + t))) x e (record { a = omega arith; b = omega arith; c = omega arith; legal = grind (arith, tells) })
-read-good RegLongImm u h t x p q r e =
-    at-only (Good RegLongImm) (ltb h 16) (fields (h % 16) 0 0 (signed 512 (u * 256 + t))) x e (λ d. record { a = omega arith; b = omega arith; c = omega arith; legal = grind (arith, tells) })
-read-good Branch u h t x p q r e =
-    at-some (Good Branch) (fields (h / 16) (h % 16) 0 (signed 512 (u * 256 + t))) x e (record { a = omega arith; b = omega arith; c = omega arith; legal = grind (arith, tells) })
-read-good Memory u h t x p q r e =
-    at-some (Good Memory) (fields (h % 16) (h / 16) 0 (signed 512 (u * 256 + t))) x e (record { a = omega arith; b = omega arith; c = omega arith; legal = grind (arith, tells) })
-read-good RegReg u h t x p q r e =
-    at-some (Good RegReg) (fields (h % 16) (h / 16) 0 (pos 0)) x e (record { a = omega arith; b = omega arith; c = omega arith; legal = grind (arith, tells) })
-read-good RegImm u h t x p q r e =
-    at-some (Good RegImm) (fields (h % 16) 0 0 (signed 32 (u * 16 + h / 16))) x e (record { a = omega arith; b = omega arith; c = omega arith; legal = grind (arith, tells) })
-read-good RegShift u h t x p q r e =
-    at-some (Good RegShift) (fields (h % 16) 0 0 (pos (h / 16))) x e (record { a = omega arith; b = omega arith; c = omega arith; legal = grind (arith, tells) })
-read-good Reg u h t x p q r e =
-    at-only (Good Reg) (ltb h 16) (fields (h % 16) 0 0 (pos 0)) x e (λ d. record { a = omega arith; b = omega arith; c = omega arith; legal = grind (arith, tells) })
-read-good Jump u h t x p q r e =
-    at-some (Good Jump) (fields 0 0 0 (signed 1024 (h * 8 + u))) x e (record { a = omega arith; b = omega arith; c = omega arith; legal = grind (arith, tells) })
-read-good Stack u h t x p q r e =
-    at-some (Good Stack) (fields (h % 16) 0 0 (pos ((u * 16 + h / 16) * 2))) x e (record { a = omega arith; b = omega arith; c = omega arith; legal = grind (arith, tells) })
-read-good Bare u h t x p q r e =
-    at-only (Good Bare) (eqb h 0) (fields 0 0 0 (pos 0)) x e (λ d. record { a = omega arith; b = omega arith; c = omega arith; legal = grind (arith, tells) })
+read-fitting RegRegReg u h t x p q r e =
+    at-only (Fitting RegRegReg) (ltb t 16) (fields (h % 16) (h / 16) t (pos 0)) x e (λ d. record { a = omega arith; b = omega arith; c = omega (arith, ltb-true t 16 d); legal = grind (arith, tells) })
+read-fitting RegRegShift u h t x p q r e =
+    at-only (Fitting RegRegShift) (ltb t 16) (fields (h % 16) (h / 16) 0 (pos t)) x e (λ d. record { a = omega arith; b = omega arith; c = omega arith; legal = grind (arith, tells) })
+read-fitting RegRegImm u h t x p q r e =
+    at-some (Fitting RegRegImm) (fields (h % 16) (h / 16) 0 (signed 512 (u * 256 + t))) x e (record { a = omega arith; b = omega arith; c = omega arith; legal = grind (arith, tells) })
+read-fitting RegLongImm u h t x p q r e =
+    at-only (Fitting RegLongImm) (ltb h 16) (fields (h % 16) 0 0 (signed 512 (u * 256 + t))) x e (λ d. record { a = omega arith; b = omega arith; c = omega arith; legal = grind (arith, tells) })
+read-fitting Branch u h t x p q r e =
+    at-some (Fitting Branch) (fields (h / 16) (h % 16) 0 (signed 512 (u * 256 + t))) x e (record { a = omega arith; b = omega arith; c = omega arith; legal = grind (arith, tells) })
+read-fitting Memory u h t x p q r e =
+    at-some (Fitting Memory) (fields (h % 16) (h / 16) 0 (signed 512 (u * 256 + t))) x e (record { a = omega arith; b = omega arith; c = omega arith; legal = grind (arith, tells) })
+read-fitting RegReg u h t x p q r e =
+    at-some (Fitting RegReg) (fields (h % 16) (h / 16) 0 (pos 0)) x e (record { a = omega arith; b = omega arith; c = omega arith; legal = grind (arith, tells) })
+read-fitting RegImm u h t x p q r e =
+    at-some (Fitting RegImm) (fields (h % 16) 0 0 (signed 32 (u * 16 + h / 16))) x e (record { a = omega arith; b = omega arith; c = omega arith; legal = grind (arith, tells) })
+read-fitting RegShift u h t x p q r e =
+    at-some (Fitting RegShift) (fields (h % 16) 0 0 (pos (h / 16))) x e (record { a = omega arith; b = omega arith; c = omega arith; legal = grind (arith, tells) })
+read-fitting Reg u h t x p q r e =
+    at-only (Fitting Reg) (ltb h 16) (fields (h % 16) 0 0 (pos 0)) x e (λ d. record { a = omega arith; b = omega arith; c = omega arith; legal = grind (arith, tells) })
+read-fitting Jump u h t x p q r e =
+    at-some (Fitting Jump) (fields 0 0 0 (signed 1024 (h * 8 + u))) x e (record { a = omega arith; b = omega arith; c = omega arith; legal = grind (arith, tells) })
+read-fitting Stack u h t x p q r e =
+    at-some (Fitting Stack) (fields (h % 16) 0 0 (pos ((u * 16 + h / 16) * 2))) x e (record { a = omega arith; b = omega arith; c = omega arith; legal = grind (arith, tells) })
+read-fitting Bare u h t x p q r e =
+    at-only (Fitting Bare) (eqb h 0) (fields 0 0 0 (pos 0)) x e (λ d. record { a = omega arith; b = omega arith; c = omega arith; legal = grind (arith, tells) })
 
 -- four tests in a row that end in an answer were all passed
 all-passed : (p q r s : Bool) (d e f g : RecordError) (y x : Fields) → cond p (cond q (cond r (cond s (Ok y) (Err d)) (Err e)) (Err f)) (Err g) ≡ Ok x → (y ≡ x) × ((q && (r && s)) ≡ true)

@@ -9,8 +9,6 @@ use Rattle.std.specs.declared.option.Option.{Option}
 use Rattle.std.specs.declared.option.Option.the-variants.{Some, None}
 use Rattle.std.specs.declared.result.Result.{Result}
 use Rattle.std.specs.declared.result.Result.the-variants.{Ok, Err}
-use Rattle.records.specs.declared.image.Image.{Image}
-use Rattle.records.specs.declared.image.Image.the-variants.{Two, Three}
 use Rattle.opcodes.specs.declared.kind.Kind.{Kind}
 use Rattle.records.specs.declared.refusal.DecodeError.{DecodeError}
 use Rattle.records.specs.declared.refusal.DecodeError.the-variants.{Empty, CutShort, Undefined}
@@ -22,20 +20,25 @@ use Rattle.opcodes.specs.Kinds.{code, format}
 use Rattle.records.specs.Layouts.{read, layout, bytes-of}
 use Rattle.opcodes.specs.Table.{named}
 
+-- the bytes of one instruction
+pub data Encoding : Type 0 where
+  two : ℕ → ℕ → Encoding
+  three : ℕ → ℕ → ℕ → Encoding
+
 -- the bytes of the first instruction, and those after it
 pub record Cut : Type 0 where
-  pub image : Image
+  pub first : Encoding
   pub rest : List ℕ
 
-abbrev pub cut : Image → List ℕ → Cut
-cut i rest = record { image = i; rest = rest }
+abbrev pub cut : Encoding → List ℕ → Cut
+cut b rest = record { first = b; rest = rest }
 
--- bit 0 of the first byte tells the length: 1 for three bytes
+-- an odd first byte begins three bytes, an even one two
 abbrev pub split : List ℕ → Result Cut DecodeError
 split [] = Err Empty
 split (low ∷ []) = Err CutShort
-split (low ∷ high ∷ []) = cond (eqb (low % 2) 1) (Err CutShort) (Ok (cut (Two low high) []))
-split (low ∷ high ∷ top ∷ rest) = cond (eqb (low % 2) 1) (Ok (cut (Three low high top) rest)) (Ok (cut (Two low high) (top ∷ rest)))
+split (low ∷ high ∷ []) = cond (eqb (low % 2) 1) (Err CutShort) (Ok (cut (two low high) []))
+split (low ∷ high ∷ top ∷ rest) = cond (eqb (low % 2) 1) (Ok (cut (three low high top) rest)) (Ok (cut (two low high) (top ∷ rest)))
 
 abbrev pub with-fields : Kind → Option Fields → Option Instruction
 with-fields k None = None
@@ -49,9 +52,9 @@ of-kind (Some k) low high top = with-fields k (read (format k) (low / 2 ^ code-w
 abbrev pub held : ℕ → ℕ → ℕ → Option Instruction
 held low high top = of-kind (named low) low high top
 
-abbrev pub held-in : Image → Option Instruction
-held-in (Two low high) = held low high 0
-held-in (Three low high top) = held low high top
+abbrev pub held-in : Encoding → Option Instruction
+held-in (two low high) = held low high 0
+held-in (three low high top) = held low high top
 
 -- an answer, and the bytes that are left
 pub record Decoded : Type 0 where
@@ -67,15 +70,11 @@ answered s (Some x) rest = gives (Ok x) rest
 
 abbrev pub decoded-from : List ℕ → Result Cut DecodeError → Decoded
 decoded-from s (Err e) = gives (Err e) s
-decoded-from s (Ok c) = answered s (held-in (c .image)) (c .rest)
+decoded-from s (Ok c) = answered s (held-in (c .first)) (c .rest)
 
 -- a refusal leaves the whole string
 unfoldable pub decoded : List ℕ → Decoded
 decoded s = decoded-from s (split s)
-
-abbrev pub image-bytes : Image → List ℕ
-image-bytes (Two low high) = low ∷ high ∷ []
-image-bytes (Three low high top) = low ∷ high ∷ top ∷ []
 
 unfoldable pub encoded : Instruction → List ℕ
 encoded x = bytes-of (format (x .kind)) (code (x .kind)) (layout (format (x .kind)) (x .fields))

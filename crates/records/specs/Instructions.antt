@@ -34,12 +34,19 @@ values x = fields (x .a .number) (x .b .number) (x .c .number) (x .imm)
 unfoldable pub legal : Format → Fields → Bool
 legal f x = lacking-zero (shape f) (x .a) (x .b) (x .c) (x .imm) && (in-range (shape f) (x .imm) && even-enough (shape f) (x .imm))
 
+abbrev pub Lawful : Format → Fields → Type 0
+Lawful f x = legal f x ≡ true
+
 abbrev pub Legal : Kind → Operands → Type 0
-Legal k x = legal (format k) (values x) ≡ true
+Legal k x = Lawful (format k) (values x)
+
+-- registers below 16, and what the format allows
+pub record Fitting (f : Format) (x : Fields) : Type 0 where
+  pub a : x .a < 16
+  pub b : x .b < 16
+  pub c : x .c < 16
+  pub legal : Lawful f x
 
 -- an instruction that a record can stand for
-pub record Sound (x : Instruction) : Type 0 where
-  pub a : x .fields .a < 16
-  pub b : x .fields .b < 16
-  pub c : x .fields .c < 16
-  pub legal : legal (format (x .kind)) (x .fields) ≡ true
+abbrev pub Sound : Instruction → Type 0
+Sound x = Fitting (format (x .kind)) (x .fields)

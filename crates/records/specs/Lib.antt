@@ -1,4 +1,5 @@
 pub mod Codec
+pub mod Images
 pub mod Instructions
 pub mod Layouts
 pub mod Records

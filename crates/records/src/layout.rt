@@ -4,7 +4,7 @@ ghost use Prim.Native.Nat.{_/_, _^_, _<_};
 ghost use lib.IntN.{pos};
 ghost use Rattle.std.specs.Options.{mapped};
 ghost use Rattle.opcodes.specs.Formats.{code-width};
-ghost use Rattle.records.specs.Codec.{image-bytes};
+ghost use Rattle.records.specs.Images.{image-bytes};
 ghost use Rattle.records.specs.Instructions.{fields as held, values};
 ghost use Rattle.records.specs.Layouts.{read, layout, bytes-of};
 use crate::image::Image;

@@ -7,8 +7,6 @@ mod refusal;
 mod shape;
 mod text;
 
-pub use image::Image;
-pub use image::split;
 pub use record::Record;
 pub use record::RecordDebug;
 pub use record::RecordPartialEq;

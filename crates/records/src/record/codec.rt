@@ -1,7 +1,8 @@
 // Decoding and encoding.
 ghost use mathlib.Core.Path.{_≡_};
 ghost use Rattle.std.specs.Options.{mapped};
-ghost use Rattle.records.specs.Codec.{held, held-in, gives, decoded, encoded, image-bytes, laid-answer, laid-over};
+ghost use Rattle.records.specs.Codec.{held, held-in, gives, decoded, encoded, laid-answer, laid-over};
+ghost use Rattle.records.specs.Images.{encoding, image-bytes};
 ghost use Rattle.records.specs.Records.{meaning, outcome};
 use crate::image::Image;
 use crate::image::split;
@@ -21,8 +22,8 @@ fn held(low: u8, high: u8, top: u8) -> Option<Record>
 
 impl Image {
     // The record that the bytes hold, if they are defined.
-    pub fn record(self) -> Option<Record>
-        ensures { λ r. ⌜ mapped meaning r ≡ held-in self ⌝ }
+    pub(crate) fn record(self) -> Option<Record>
+        ensures { λ r. ⌜ mapped meaning r ≡ held-in (encoding self) ⌝ }
     {
         match self {
             Image::Two(low, high) => held(low, high, 0),

@@ -2,9 +2,9 @@ use mathlib.Core.Path.{sym, _∙_, ap, subst}
 use mir.Val.{toZ, ofZ}
 use mir.Syntax.{w32}
 use Rattle.opcodes.specs.declared.format.Format.{Format}
-use Rattle.records.specs.Instructions.{values}
+use Rattle.records.specs.Instructions.{values, Lawful}
 use Rattle.records.specs.Records.{outcome-values}
-use Rattle.records.proofs.Legal.{Lawful, taken-legal}
+use Rattle.records.proofs.Legal.{taken-legal}
 use Rattle.records.proofs.record.Record.new.Needs as need
 
 pub ghost-result : need.ghost-result

@@ -75,11 +75,13 @@ abbrev pub lines : ℕ → List Instruction → List ℕ
 lines at [] = []
 lines at (x ∷ xs) = line at (encoded x) x ++ lines (at + length (encoded x)) xs
 
--- a filter that was encoded from instructions is listed as these instructions, each with its own bytes
-abbrev pub Shows-what-was-encoded : Type 0
-Shows-what-was-encoded = (xs : List Instruction) → All Sound xs → length (bytes xs) ≤ 65536 → listing (bytes xs) ≡ lines 0 xs ++ count-line (length xs)
+-- what is listed of bytes that are refused: nothing where there are none
+abbrev pub stop : ℕ → List ℕ → DecodeError → List ℕ
+stop at [] e = []
+stop at (b ∷ s) e = refusal-line at e
 
--- every byte of a listing, and what a listing shows
-pub record Lists (s out : List ℕ) : Type 0 where
-  pub bytes : out ≡ listing s
-  pub law : Shows-what-was-encoded
+-- a filter of instructions, encoded one after another, and of bytes that are refused, is listed as these instructions, each with its
+-- own bytes, then the refusal, then the count; every filter is of this form
+abbrev pub Shows-what-was-encoded : Type 0
+Shows-what-was-encoded =
+    (xs : List Instruction) → All Sound xs → (s : List ℕ) (e : DecodeError) → decoded s .answer ≡ Err e → length (bytes xs ++ s) ≤ 65536 → listing (bytes xs ++ s) ≡ lines 0 xs ++ (stop (length (bytes xs)) s e ++ count-line (length xs))

@@ -7,7 +7,7 @@ ghost use Rattle.std.specs.Of.Vec.{vec-items};
 ghost use Rattle.std.specs.Vec.{made};
 ghost use Rattle.columns.specs.Columns.{padded};
 ghost use Rattle.records.specs.Records.{meaning};
-ghost use Rattle.disassembly.specs.Listings.{hex-digit, hexes, gap, line, refusal-line, count-line, First, Lists};
+ghost use Rattle.disassembly.specs.Listings.{hex-digit, hexes, gap, line, refusal-line, count-line, First, listing, Shows-what-was-encoded};
 use columns::justify;
 use isa::DecodeError;
 use isa::Record;
@@ -17,7 +17,7 @@ use std::alloc::AllocError;
 use std::alloc::Global;
 
 // The most bytes that a filter has.
-const LIMIT: usize = 65_536;
+pub const LIMIT: usize = 65_536;
 
 // The upper-case hexadecimal digit of a number below 16.
 fn hex_digit(n: u8) -> u8
@@ -132,9 +132,10 @@ fn push_first<'a>(
     }
 }
 
-// The listing of a filter. The law: a filter that was encoded from instructions is listed as just these instructions.
+// The listing of a filter. The law: instructions that were encoded are listed as just these instructions.
 pub fn listing(heap: Global, filter: &[u8]) -> Result<Vec<u8>, AllocError>
-    ensures { λ r. ⌜ made r (λ v. Lists (now (filter .entry)) (vec-items v)) ⌝ }
+    ensures bytes { λ r. ⌜ made r (λ v. vec-items v ≡ listing (now (filter .entry))) ⌝ }
+    ensures law { λ _. ⌜ Shows-what-was-encoded ⌝ }
 {
     let mut out = Vec::new(heap);
     if filter.len() > LIMIT {

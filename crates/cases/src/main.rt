@@ -100,7 +100,7 @@ impl fmt::Display for Decoding<'_> as DecodingDisplay {
     }
 }
 
-// What encoding a record answers in buffers of none to three bytes.
+// What encoding a record answers in buffers of none to three bytes, with the three bytes afterwards.
 #[derive(Clone, Copy)]
 struct Encoding(Record);
 
@@ -109,14 +109,13 @@ impl fmt::Display for Encoding as EncodingDisplay {
         let record = self.0;
         write!(f, "encode {record} into 0 to 3 bytes:")?;
         for room in 0..4usize {
-            let mut buffer = [0; 3];
-            match record.encode(&mut buffer[0..room]) {
-                Ok(count) => write!(f, " {count}")?,
-                Err(refusal) => {
-                    let number = refusal.number();
-                    write!(f, " {number}")?;
-                }
-            }
+            let mut buffer = [0xEE; 3];
+            let number = match record.encode(&mut buffer[0..room]) {
+                Ok(count) => count,
+                Err(refusal) => usize::from(refusal.number()),
+            };
+            let [x, y, z] = buffer;
+            write!(f, " {number} ( {x:02X} {y:02X} {z:02X} )")?;
         }
         Ok(())
     }
@@ -180,7 +179,6 @@ const MAKINGS: &[Making] = &[
     Making(45, 1, 16, 0, 0),
     Making(50, 0, 0, 255, 1),
     Making(45, 1, 1, 0, 0),
-    Making(50, 0, 0, 0, 1),
     Making(50, 1, 0, 0, 0),
     Making(48, 8, 1, 0, 125),
     Making(13, 8, 1, 0, 600),

@@ -50,6 +50,6 @@ all-lines n at count (x ∷ xs) a s e d le =
 pub shown : Shows-what-was-encoded
 shown xs a s e d le =
     sym (within (bytes xs ++ s) _ le
-        (sym (all-lines (length (bytes xs ++ s)) 0 0 xs a s e d (omega arith)
-            ∙ ap (λ (k : ℕ). lines 0 xs ++ (stop k s e ++ count-line (0 + length xs))) (zero-add (length (bytes xs)))
-            ∙ ap (λ (k : ℕ). lines 0 xs ++ (stop (length (bytes xs)) s e ++ count-line k)) (zero-add (length xs)))))
+    (sym (all-lines (length (bytes xs ++ s)) 0 0 xs a s e d (omega arith)
+    ∙ ap (λ (k : ℕ). lines 0 xs ++ (stop k s e ++ count-line (0 + length xs))) (zero-add (length (bytes xs)))
+    ∙ ap (λ (k : ℕ). lines 0 xs ++ (stop (length (bytes xs)) s e ++ count-line k)) (zero-add (length xs)))))

@@ -155,3 +155,24 @@ pub fn listing(heap: Global, filter: &[u8]) -> Result<Vec<u8>, AllocError>
     push_count(&mut out, heap, count)?;
     Ok(out)
 }
+
+#[cfg(test)]
+mod tests {
+    use super::*;
+    use std::test::*;
+
+    #[test]
+    fn the_longest_filter_is_listed(rt: LibcRuntime) -> Result<(), Fail> {
+        let filter = vec![in rt.alloc(); 0u8; LIMIT]?;
+        let text = listing(rt.alloc(), &filter)?;
+        let nops = LIMIT / 2;
+        check(text.len() == nops * b"    0  00 00     nop\n".len() + b"instructions: 32768\n".len())
+    }
+
+    #[test]
+    fn a_longer_filter_is_refused(rt: LibcRuntime) -> Result<(), Fail> {
+        let filter = vec![in rt.alloc(); 0u8; LIMIT + 1]?;
+        let text = listing(rt.alloc(), &filter)?;
+        check(text.as_slice() == b"a filter has at most 65536 bytes\n")
+    }
+}

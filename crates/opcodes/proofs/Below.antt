@@ -1,4 +1,4 @@
--- A test that passes at each number below a bound, and at each kind, by one computation. Assumes nothing.
+-- A test that passes at each number below a bound, by one computation. Assumes nothing.
 use mathlib.Core.Path.{_≡_, refl}
 use mathlib.Core.Bool.{Bool, true, false, _&&_}
 use Prim.Native.Nat.{ℕ, zero, suc, _<_}

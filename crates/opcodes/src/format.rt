@@ -1,4 +1,4 @@
-// The formats of the instructions, named by what stands in the assembler text, in its order.
+// The formats of the instructions: where the bytes hold the fields, and how the text shows them.
 #[derive(Clone, Copy, PartialEq, Eq, Debug)]
 pub enum Format {
     // three bytes

@@ -5,16 +5,13 @@ use mathlib.Core.List.{List, _++_}
 use Prim.Native.Nat.{ℕ, _+_, _-_, _≤_}
 use native.Mathlib.Omega.{arith}
 use borrow.Rule.Slice.PartMut.{putMid}
-use lib.Dec.{leb}
 use lib.ListN.{length, take, drop, replicate, length-append, length-replicate, take-append-drop}
 use Rattle.std.proofs.shelf.Edits.{length-between, paste-all}
 use Rattle.std.proofs.shelf.Parts.{putMid-paste}
 use Rattle.std.proofs.shelf.Lists.{drop-drop}
 use Rattle.std.proofs.shelf.Tests.{le-leb, leb-true, cond-true}
 use Rattle.std.specs.Written.{decimal}
-use Rattle.std.specs.declared.result.Result.{Result}
 use Rattle.std.specs.declared.result.Result.the-variants.{Ok, Err}
-use Rattle.columns.specs.declared.ColumnsError.{ColumnsError}
 use Rattle.columns.specs.declared.ColumnsError.the-variants.{NoRoom, TooLong}
 use Rattle.columns.specs.Columns.{padded, fits, justified-answer, justified, inside, justified-at-answer, justified-at}
 

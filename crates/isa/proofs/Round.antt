@@ -1,33 +1,31 @@
 -- Decoding undoes encoding, and encoding undoes decoding. Assumes nothing.
 use mathlib.Core.Path.{_≡_, refl, sym, subst, _∙_, ap}
-use mathlib.Core.Bool.{Bool, true, false, cond}
+use mathlib.Core.Bool.{Bool, true, false}
 use mathlib.Core.List.{List, [], _∷_, _++_}
-use Prim.Native.Nat.{ℕ, _+_, _-_, _*_, _/_, _%_, _^_, _<_}
+use Prim.Native.Nat.{ℕ, _+_, _*_, _/_, _%_, _^_, _<_}
 use native.Mathlib.Omega.{arith}
 use lib.Dec.{eqb}
 use lib.ListN.{getD}
 use Rattle.std.proofs.shelf.Tests.{cond-true, cond-false}
 use Rattle.std.specs.declared.option.Option.{Option}
 use Rattle.std.specs.declared.option.Option.the-variants.{Some, None}
-use Rattle.std.specs.declared.result.Result.{Result}
 use Rattle.std.specs.declared.result.Result.the-variants.{Ok, Err}
 use Rattle.opcodes.specs.declared.format.Format.{Format}
 use Rattle.opcodes.specs.declared.format.Format.the-variants.{RegRegReg, RegRegShift, RegRegImm, RegLongImm, Branch, Memory, RegReg, RegImm, RegShift, Reg, Jump, Stack, Bare}
 use Rattle.opcodes.specs.declared.kind.Kind.{Kind}
-use Rattle.records.specs.declared.refusal.DecodeError.{DecodeError}
-use Rattle.records.specs.declared.refusal.DecodeError.the-variants.{Empty, CutShort, Undefined}
-use Rattle.records.specs.Codec.{Cut, two, three, cut, split, with-fields, of-kind, held, held-in, Decoded, gives, answered, decoded-from, decoded, encoded}
+use Rattle.records.specs.declared.refusal.DecodeError.the-variants.{CutShort}
+use Rattle.records.specs.Codec.{two, three, cut, with-fields, of-kind, held, gives, answered, decoded-from, decoded, encoded}
 use Rattle.opcodes.specs.Formats.{code-width}
 use Rattle.records.specs.Instructions.{Fields, Instruction, instruction, Sound}
 use Rattle.opcodes.specs.Kinds.{code, format}
 use Rattle.isa.specs.Laws.{Bytes, Decoding-undoes-encoding, Encoding-undoes-decoding, Decoding-examples}
-use Rattle.records.specs.Layouts.{read, Layout, layout, bytes-of}
+use Rattle.records.specs.Layouts.{read, layout, bytes-of}
 use Rattle.opcodes.specs.Table.{named}
 use Rattle.records.proofs.Legal.{read-fitting}
 use Rattle.records.proofs.Splits.{following, apart}
 use Rattle.opcodes.proofs.Named.{long, code-of, named-by, code-lt, length-told, first-byte-mod, first-byte-div, first-byte-lt, first-byte-whole}
-use Rattle.isa.proofs.Redo.{laid-as, redo}
-use Rattle.isa.proofs.Undo.{Undone, undo}
+use Rattle.isa.proofs.Redo.{redo}
+use Rattle.isa.proofs.Undo.{undo}
 use Rattle.opcodes.proofs.Widths.{above-lt}
 
 -- bytes whose first tells their number are the first instruction, whatever follows

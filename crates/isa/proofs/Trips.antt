@@ -1,16 +1,15 @@
 -- The calls that encode and decode, by what each of the two ensures. Assumes nothing.
-use mathlib.Core.Path.{_≡_, refl, sym, _∙_, ap, subst}
+use mathlib.Core.Path.{_≡_, refl, sym, _∙_, ap}
 use mathlib.Core.Bool.{Bool, true, false, cond}
 use mathlib.Core.List.{List, [], _∷_, _++_}
-use Prim.Native.Nat.{ℕ, suc, _+_, _-_, _<_}
+use Prim.Native.Nat.{ℕ, suc, _-_, _<_}
 use native.Mathlib.Omega.{arith}
 use lib.Dec.{leb}
 use lib.ListN.{length, getD, drop, take, length-append}
 use lib.Seq.{take-append-seam}
-use Rattle.std.proofs.shelf.Tests.{cond-true, cond-false}
+use Rattle.std.proofs.shelf.Tests.{cond-true}
 use Rattle.std.specs.declared.result.Result.{Result}
 use Rattle.std.specs.declared.result.Result.the-variants.{Ok, Err}
-use Rattle.isa.specs.declared.refusal.CodecError.{CodecError}
 use Rattle.isa.specs.declared.refusal.CodecError.the-variants.{Decode}
 use Rattle.records.specs.declared.record.Record.{Record}
 use Rattle.records.specs.declared.refusal.DecodeError.{DecodeError}

@@ -1,6 +1,6 @@
 -- A test that passes at each number below a bound, by one computation. Assumes nothing.
 use mathlib.Core.Path.{_≡_, refl}
-use mathlib.Core.Bool.{Bool, true, false, _&&_}
+use mathlib.Core.Bool.{Bool, true, _&&_}
 use Prim.Native.Nat.{ℕ, zero, suc, _<_}
 use Rattle.std.proofs.shelf.Ways.{decides-below-and}
 

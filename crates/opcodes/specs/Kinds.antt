@@ -1,13 +1,13 @@
 -- The fifty kinds, one row each: number, name as typed, code, format.
 -- Assumes nothing.
-use mathlib.Core.Bool.{Bool, cond}
+use mathlib.Core.Bool.{cond}
 use mathlib.Core.List.{List, [], _∷_}
 use Prim.Native.Nat.{ℕ, _-_}
 use lib.Chars.{codes}
 use lib.Dec.{eqb}
 use Rattle.std.specs.Finite.{nth}
 use Rattle.std.specs.declared.option.Option.{Option}
-use Rattle.std.specs.declared.option.Option.the-variants.{Some, None}
+use Rattle.std.specs.declared.option.Option.the-variants.{None}
 use Rattle.opcodes.specs.declared.kind.Kind.{Kind}
 use Rattle.opcodes.specs.declared.kind.Kind.the-variants.{Add, Sub, And, Xor, Or, Lsl, Lsr, Asr, Addi, Andi, Xori, Ori, Li, Lsli, Lsri, Asri, Beq, Bne, Blt, Bltu, Ble, Bleu, Lw, Lb, Lbu, Sw, Sb, Mov, Add2, Sub2, And2, Xor2, Or2, Lsl2, Lsr2, Asr2, Addi2, Andi2, Lsi, Lui, Lsli2, Lsri2, Asri2, Jalr, Jr, Js, Jsal, Lwsp, Swsp, Nop}
 use Rattle.opcodes.specs.declared.format.Format.{Format}

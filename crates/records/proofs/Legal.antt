@@ -7,8 +7,7 @@ use lib.Dec.{ltb, eqb}
 use lib.IntN.{ℤ, pos}
 use Rattle.std.proofs.shelf.Tests.{ltb-true}
 use Rattle.std.proofs.shelf.Ways.{tells}
-use Rattle.std.specs.declared.option.Option.the-variants.{Some, None}
-use Rattle.std.specs.declared.result.Result.{Result}
+use Rattle.std.specs.declared.option.Option.the-variants.{Some}
 use Rattle.std.specs.declared.result.Result.the-variants.{Ok, Err}
 use Rattle.records.specs.declared.refusal.RecordError.{RecordError}
 use Rattle.records.specs.declared.refusal.RecordError.the-variants.{NoSuchRegister, LackingField, OutOfRange, OddOffset}

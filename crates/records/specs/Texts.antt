@@ -1,6 +1,6 @@
 -- The assembler text of an instruction.
 -- Assumes nothing.
-use mathlib.Core.List.{List, [], _∷_, _++_}
+use mathlib.Core.List.{List, [], _++_}
 use Prim.Native.Nat.{ℕ}
 use Rattle.fields.specs.Texts.{register-text}
 use lib.Chars.{codes}

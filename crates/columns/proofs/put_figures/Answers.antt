@@ -1,7 +1,7 @@
 use mathlib.Core.Path.{_∙_}
 use Prim.Native.Nat.{_≤_, _-_, _+_}
 use native.Mathlib.Omega.{arith}
-use lib.ListN.{length, set, length-set}
+use lib.ListN.{set, length-set}
 use Rattle.std.proofs.shelf.Decimals.{decimal-some}
 use Rattle.columns.proofs.Units.{none-yet, shorter, one-more, last-one, begins}
 use Rattle.columns.proofs.put_figures.Needs as need

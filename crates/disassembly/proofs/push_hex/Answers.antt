@@ -1,4 +1,3 @@
-use mathlib.Core.Path.{_∙_}
 use Rattle.std.specs.Of.Vec.{vec-items}
 use Rattle.disassembly.proofs.Pushes.{hex-more, hex-all}
 use Rattle.disassembly.proofs.push_hex.Needs as need

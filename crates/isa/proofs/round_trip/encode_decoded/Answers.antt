@@ -1,9 +1,7 @@
 use mathlib.Core.Path.{_≡_, sym, _∙_, ap}
 use native.Mathlib.Omega.{arith}
 use Rattle.std.proofs.shelf.Results.{err-from-errBy}
-use Rattle.std.specs.declared.result.Result.{Result}
 use Rattle.std.specs.declared.result.Result.the-variants.{Ok, Err}
-use Rattle.records.specs.declared.refusal.EncodeError.{EncodeError}
 use Rattle.records.specs.Codec.{Decoded, decoded, gives}
 use Rattle.records.specs.Records.{meaning, outcome}
 use Rattle.isa.specs.RoundTrips.{as-codec}

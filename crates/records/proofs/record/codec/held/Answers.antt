@@ -1,7 +1,5 @@
-use borrow.Author.Needs.{needs}
 use native.Mathlib.Omega.{arith}
-use mathlib.Core.Path.{_≡_, sym, _∙_, ap, subst}
-use Rattle.std.specs.declared.option.Option.{Option}
+use mathlib.Core.Path.{sym, _∙_, ap, subst}
 use Rattle.std.specs.Options.{mapped}
 use Rattle.opcodes.specs.declared.format.Format.{Format}
 use Rattle.records.specs.declared.operands.Operands.{Operands}

@@ -1,6 +1,5 @@
 use borrow.Author.Needs.{needs}
 use mathlib.Core.Path.{_≡_, sym, _∙_, ap}
-use mathlib.Core.Bool.{true}
 use lib.IntN.{ℤ}
 use mir.Val.{SFits, toZ, ofZ}
 use mir.Syntax.{w16, w32}

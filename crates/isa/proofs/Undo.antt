@@ -14,7 +14,7 @@ use Rattle.opcodes.specs.declared.format.Format.{Format}
 use Rattle.opcodes.specs.declared.format.Format.the-variants.{RegRegReg, RegRegShift, RegRegImm, RegLongImm, Branch, Memory, RegReg, RegImm, RegShift, Reg, Jump, Stack, Bare}
 use Rattle.fields.specs.Bits.{signed, bits}
 use Rattle.opcodes.specs.Formats.{code-width}
-use Rattle.records.specs.Shapes.{shape, lacking-zero, in-range, even-enough}
+use Rattle.records.specs.Shapes.{shape, unused-zero, in-range, even-enough}
 use Rattle.records.specs.Instructions.{Fields, fields, legal, Fitting}
 use Rattle.records.specs.Layouts.{only, read, layout, halves}
 use Rattle.opcodes.proofs.Below.{below}
@@ -47,14 +47,14 @@ record Facts (f : Format) (x : Fields) : Type 0 where
   a : x .a < 16
   b : x .b < 16
   c : x .c < 16
-  zeros : lacking-zero (shape f) (x .a) (x .b) (x .c) (x .imm) ≡ true
+  zeros : unused-zero (shape f) (x .a) (x .b) (x .c) (x .imm) ≡ true
   range : in-range (shape f) (x .imm) ≡ true
   evens : even-enough (shape f) (x .imm) ≡ true
 
 facts : (f : Format) (x : Fields) → Fitting f x → Facts f x
 unfolding legal
 facts f x g =
-    let p = and-parts (lacking-zero (shape f) (x .a) (x .b) (x .c) (x .imm)) (in-range (shape f) (x .imm) && even-enough (shape f) (x .imm)) (g .legal) in
+    let p = and-parts (unused-zero (shape f) (x .a) (x .b) (x .c) (x .imm)) (in-range (shape f) (x .imm) && even-enough (shape f) (x .imm)) (g .legal) in
     let q = and-parts (in-range (shape f) (x .imm)) (even-enough (shape f) (x .imm)) (p .1) in
     record { a = g .a; b = g .b; c = g .c; zeros = p .0; range = q .0; evens = q .1 }
 

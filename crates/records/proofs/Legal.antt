@@ -10,12 +10,12 @@ use Rattle.std.proofs.shelf.Ways.{tells}
 use Rattle.std.specs.declared.option.Option.the-variants.{Some}
 use Rattle.std.specs.declared.result.Result.the-variants.{Ok, Err}
 use Rattle.records.specs.declared.refusal.RecordError.{RecordError}
-use Rattle.records.specs.declared.refusal.RecordError.the-variants.{NoSuchRegister, LackingField, OutOfRange, OddOffset}
+use Rattle.records.specs.declared.refusal.RecordError.the-variants.{NoSuchRegister, UnusedField, OutOfRange, OddOffset}
 use Rattle.opcodes.specs.declared.format.Format.{Format}
 use Rattle.opcodes.specs.declared.format.Format.the-variants.{RegRegReg, RegRegShift, RegRegImm, RegLongImm, Branch, Memory, RegReg, RegImm, RegShift, Reg, Jump, Stack, Bare}
 use Rattle.fields.specs.Bits.{signed}
 use Rattle.opcodes.specs.Formats.{code-width}
-use Rattle.records.specs.Shapes.{shape, lacking-zero, in-range, even-enough}
+use Rattle.records.specs.Shapes.{shape, unused-zero, in-range, even-enough}
 use Rattle.records.specs.Instructions.{Fields, fields, legal, Lawful, Fitting}
 use Rattle.records.specs.Layouts.{only, read}
 use Rattle.records.specs.Records.{registers, taken}
@@ -69,9 +69,9 @@ all-passed false q r s d e f g y x h = let z : _≡_ {A = ℕ} 0 1 = cc in absur
 pub taken-legal : (f : Format) (a b c : ℕ) (i : ℤ) (x : Fields) → taken f a b c i ≡ Ok x → Lawful f x
 unfolding legal
 taken-legal f a b c i x e =
-    let p = all-passed (registers a b c) (lacking-zero (shape f) a b c i) (in-range (shape f) i) (even-enough (shape f) i) OddOffset OutOfRange LackingField NoSuchRegister (fields a b c i) x e in
+    let p = all-passed (registers a b c) (unused-zero (shape f) a b c i) (in-range (shape f) i) (even-enough (shape f) i) OddOffset OutOfRange UnusedField NoSuchRegister (fields a b c i) x e in
     subst (Lawful f) (p .0) (p .1)
 
 -- fields that pass each question are taken, whatever way they are held
-pub taken-passed : (f : Format) (a b c : ℕ) (i : ℤ) {x y z : ℕ} {j : ℤ} → x ≡ a → y ≡ b → z ≡ c → j ≡ i → registers a b c ≡ true → lacking-zero (shape f) a b c i ≡ true → in-range (shape f) i ≡ true → even-enough (shape f) i ≡ true → Ok (fields x y z j) ≡ taken f a b c i
+pub taken-passed : (f : Format) (a b c : ℕ) (i : ℤ) {x y z : ℕ} {j : ℤ} → x ≡ a → y ≡ b → z ≡ c → j ≡ i → registers a b c ≡ true → unused-zero (shape f) a b c i ≡ true → in-range (shape f) i ≡ true → even-enough (shape f) i ≡ true → Ok (fields x y z j) ≡ taken f a b c i
 taken-passed f a b c i p q r s t u v w = simp (p, q, r, s, t, u, v, w)

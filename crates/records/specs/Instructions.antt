@@ -7,7 +7,7 @@ use lib.IntN.{ℤ}
 use Rattle.opcodes.specs.declared.format.Format.{Format}
 use Rattle.opcodes.specs.declared.kind.Kind.{Kind}
 use Rattle.records.specs.declared.operands.Operands.{Operands}
-use Rattle.records.specs.Shapes.{shape, lacking-zero, in-range, even-enough}
+use Rattle.records.specs.Shapes.{shape, unused-zero, in-range, even-enough}
 use Rattle.opcodes.specs.Kinds.{format}
 
 pub record Fields : Type 0 where
@@ -30,9 +30,9 @@ instruction k x = record { kind = k; fields = x }
 abbrev pub values : Operands → Fields
 values x = fields (x .a .number) (x .b .number) (x .c .number) (x .imm)
 
--- what a format allows: lacking fields are zero, the immediate is in range, and even where it has to be
+-- what a format allows: unused fields are zero, the immediate is in range, and even where it has to be
 unfoldable pub legal : Format → Fields → Bool
-legal f x = lacking-zero (shape f) (x .a) (x .b) (x .c) (x .imm) && (in-range (shape f) (x .imm) && even-enough (shape f) (x .imm))
+legal f x = unused-zero (shape f) (x .a) (x .b) (x .c) (x .imm) && (in-range (shape f) (x .imm) && even-enough (shape f) (x .imm))
 
 abbrev pub Lawful : Format → Fields → Type 0
 Lawful f x = legal f x ≡ true

@@ -13,8 +13,8 @@ use Rattle.opcodes.specs.declared.kind.Kind.{Kind}
 use Rattle.records.specs.declared.operands.Operands.{Operands}
 use Rattle.records.specs.declared.record.Record.{Record}
 use Rattle.records.specs.declared.refusal.RecordError.{RecordError}
-use Rattle.records.specs.declared.refusal.RecordError.the-variants.{UnknownKind, NoSuchRegister, LackingField, OutOfRange, OddOffset}
-use Rattle.records.specs.Shapes.{shape, lacking-zero, in-range, even-enough}
+use Rattle.records.specs.declared.refusal.RecordError.the-variants.{UnknownKind, NoSuchRegister, UnusedField, OutOfRange, OddOffset}
+use Rattle.records.specs.Shapes.{shape, unused-zero, in-range, even-enough}
 use Rattle.records.specs.Instructions.{Fields, fields, Instruction, instruction, values}
 use Rattle.opcodes.specs.Kinds.{format, kind-numbered}
 
@@ -37,9 +37,9 @@ registers a b c = leb a 15 && (leb b 15 && leb c 15)
 abbrev pub taken : Format → ℕ → ℕ → ℕ → ℤ → Result Fields RecordError
 taken f a b c i =
     cond (registers a b c)
-    (cond (lacking-zero (shape f) a b c i)
+    (cond (unused-zero (shape f) a b c i)
     (cond (in-range (shape f) i) (cond (even-enough (shape f) i) (Ok (fields a b c i)) (Err OddOffset)) (Err OutOfRange))
-    (Err LackingField))
+    (Err UnusedField))
     (Err NoSuchRegister)
 
 abbrev pub with-kind : Kind → Result Fields RecordError → Result Instruction RecordError

@@ -4,7 +4,7 @@ use mathlib.Core.List.{List}
 use Prim.Native.Nat.{ℕ}
 use lib.Chars.{codes}
 use Rattle.records.specs.declared.refusal.RecordError.{RecordError}
-use Rattle.records.specs.declared.refusal.RecordError.the-variants.{UnknownKind, NoSuchRegister, LackingField, OutOfRange, OddOffset}
+use Rattle.records.specs.declared.refusal.RecordError.the-variants.{UnknownKind, NoSuchRegister, UnusedField, OutOfRange, OddOffset}
 use Rattle.records.specs.declared.refusal.DecodeError.{DecodeError}
 use Rattle.records.specs.declared.refusal.DecodeError.the-variants.{Empty, CutShort, Undefined}
 use Rattle.records.specs.declared.refusal.EncodeError.{EncodeError}
@@ -13,7 +13,7 @@ use Rattle.records.specs.declared.refusal.EncodeError.the-variants.{NoRoom}
 abbrev pub record-number : RecordError → ℕ
 record-number UnknownKind = 24
 record-number NoSuchRegister = 51
-record-number LackingField = 55
+record-number UnusedField = 55
 record-number OutOfRange = 53
 record-number OddOffset = 54
 

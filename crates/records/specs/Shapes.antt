@@ -29,17 +29,17 @@ shape Jump = entry 0 (negsuc 1023) (pos 1023) false
 shape Stack = entry 1 (pos 0) (pos 126) true
 shape Bare = entry 0 (pos 0) (pos 0) false
 
--- each register that is lacking is zero
-abbrev pub lacking-registers-zero : Shape → ℕ → ℕ → ℕ → Bool
-lacking-registers-zero s a b c = (ltb 0 (s .registers) || eqb a 0) && ((ltb 1 (s .registers) || eqb b 0) && (ltb 2 (s .registers) || eqb c 0))
+-- each register that the format does not use is zero
+abbrev pub unused-registers-zero : Shape → ℕ → ℕ → ℕ → Bool
+unused-registers-zero s a b c = (ltb 0 (s .registers) || eqb a 0) && ((ltb 1 (s .registers) || eqb b 0) && (ltb 2 (s .registers) || eqb c 0))
 
--- the immediate is zero if it is lacking
-abbrev pub lacking-immediate-zero : Shape → ℤ → Bool
-lacking-immediate-zero s i = ltZ (pos 0) (s .highest) || eqb (natAbs i) 0
+-- the immediate is zero if the format does not use it
+abbrev pub unused-immediate-zero : Shape → ℤ → Bool
+unused-immediate-zero s i = ltZ (pos 0) (s .highest) || eqb (natAbs i) 0
 
--- each field that is lacking is zero
-abbrev pub lacking-zero : Shape → ℕ → ℕ → ℕ → ℤ → Bool
-lacking-zero s a b c i = lacking-registers-zero s a b c && lacking-immediate-zero s i
+-- each field that the format does not use is zero
+abbrev pub unused-zero : Shape → ℕ → ℕ → ℕ → ℤ → Bool
+unused-zero s a b c i = unused-registers-zero s a b c && unused-immediate-zero s i
 
 abbrev pub in-range : Shape → ℤ → Bool
 in-range s i = leZ (s .lowest) i && leZ i (s .highest)

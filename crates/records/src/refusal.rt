@@ -7,7 +7,7 @@ ghost use Rattle.records.specs.Refusals.{record-number, decode-number, decode-
 pub enum RecordError {
     UnknownKind,
     NoSuchRegister,
-    LackingField,
+    UnusedField,
     OutOfRange,
     OddOffset,
 }
@@ -33,7 +33,7 @@ impl RecordError {
         match self {
             RecordError::UnknownKind => 24,
             RecordError::NoSuchRegister => 51,
-            RecordError::LackingField => 55,
+            RecordError::UnusedField => 55,
             RecordError::OutOfRange => 53,
             RecordError::OddOffset => 54,
         }

@@ -1,6 +1,6 @@
 // What a record of each format may hold.
 ghost use mathlib.Core.Path.{_≡_};
-ghost use Rattle.records.specs.Shapes.{shape, entry, lacking-registers-zero, lacking-immediate-zero, lacking-zero, in-range, even-enough};
+ghost use Rattle.records.specs.Shapes.{shape, entry, unused-registers-zero, unused-immediate-zero, unused-zero, in-range, even-enough};
 use opcodes::Format;
 
 // How many of the registers a, b, c there are, the least and the greatest immediate (0 and 0 where there is none), and whether it
@@ -45,27 +45,27 @@ impl Shape {
         }
     }
 
-    // Whether each register that is lacking is zero.
-    fn lacking_registers_zero(self, a: u8, b: u8, c: u8) -> bool
-        ensures { λ r. ⌜ r ≡ lacking-registers-zero self a b c ⌝ }
+    // Whether each register that the format does not use is zero.
+    fn unused_registers_zero(self, a: u8, b: u8, c: u8) -> bool
+        ensures { λ r. ⌜ r ≡ unused-registers-zero self a b c ⌝ }
     {
         (self.registers > 0 || a == 0)
             && (self.registers > 1 || b == 0)
             && (self.registers > 2 || c == 0)
     }
 
-    // Whether the immediate is zero if it is lacking.
-    fn lacking_immediate_zero(self, imm: i32) -> bool
-        ensures { λ r. ⌜ r ≡ lacking-immediate-zero self imm ⌝ }
+    // Whether the immediate is zero if the format does not use it.
+    fn unused_immediate_zero(self, imm: i32) -> bool
+        ensures { λ r. ⌜ r ≡ unused-immediate-zero self imm ⌝ }
     {
         self.highest > 0 || imm == 0
     }
 
-    // Whether each field that is lacking is zero.
-    pub(crate) fn lacking_zero(self, a: u8, b: u8, c: u8, imm: i32) -> bool
-        ensures { λ r. ⌜ r ≡ lacking-zero self a b c imm ⌝ }
+    // Whether each field that the format does not use is zero.
+    pub(crate) fn unused_zero(self, a: u8, b: u8, c: u8, imm: i32) -> bool
+        ensures { λ r. ⌜ r ≡ unused-zero self a b c imm ⌝ }
     {
-        self.lacking_registers_zero(a, b, c) && self.lacking_immediate_zero(imm)
+        self.unused_registers_zero(a, b, c) && self.unused_immediate_zero(imm)
     }
 
     pub(crate) fn in_range(self, imm: i32) -> bool

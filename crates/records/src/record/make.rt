@@ -31,8 +31,8 @@ fn operands(format: Format, a: u8, b: u8, c: u8, imm: i32) -> Result<Operands, R
     };
     let (x, y, z) = found;
     let shape = Shape::of(format);
-    if !shape.lacking_zero(a, b, c, imm) {
-        return Err(RecordError::LackingField);
+    if !shape.unused_zero(a, b, c, imm) {
+        return Err(RecordError::UnusedField);
     }
     if !shape.in_range(imm) {
         return Err(RecordError::OutOfRange);

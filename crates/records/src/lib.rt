@@ -5,12 +5,12 @@ mod operands;
 mod record;
 mod refusal;
 mod shape;
-mod text;
 
 pub use record::Record;
 pub use record::RecordDebug;
 pub use record::RecordPartialEq;
 pub use record::codec::decode;
+pub use record::text::RecordDisplay;
 pub use refusal::DecodeError;
 pub use refusal::DecodeErrorDebug;
 pub use refusal::DecodeErrorPartialEq;
@@ -20,4 +20,3 @@ pub use refusal::EncodeErrorPartialEq;
 pub use refusal::RecordError;
 pub use refusal::RecordErrorDebug;
 pub use refusal::RecordErrorPartialEq;
-pub use text::RecordDisplay;

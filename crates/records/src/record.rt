@@ -10,6 +10,7 @@ use opcodes::KindPartialEq;
 pub(crate) mod codec;
 mod make;
 mod parts;
+pub(crate) mod text;
 
 #[derive(Clone, Copy, PartialEq, Eq, Debug)]
 pub struct Record {

@@ -2,6 +2,7 @@
 ghost use Rattle.std.specs.declared.option.Option.the-variants.{Some};
 ghost use Rattle.records.specs.Records.{meaning};
 ghost use Rattle.records.specs.Texts.{text};
+use crate::operands::Operands;
 use crate::record::Record;
 use fields::RegisterNumberDisplay;
 use opcodes::Format;
@@ -11,11 +12,9 @@ pub impl fmt::Display for Record as RecordDisplay {
     ghost shown = { λ x. Some (text (meaning x)) };
 
     fn fmt<W: fmt::Write>(&self, f: &mut fmt::Formatter<W>) -> fmt::Result {
-        let kind = self.kind();
-        let name = kind.name();
-        let (a, b, c) = (self.a(), self.b(), self.c());
-        let imm = self.imm();
-        match kind.format() {
+        let name = self.kind.name();
+        let Operands { a, b, c, imm } = self.operands;
+        match self.kind.format() {
             Format::RegRegReg => write!(f, "{name} {a}, {b}, {c}"),
             Format::RegRegShift | Format::RegRegImm | Format::Branch => write!(
                 f,

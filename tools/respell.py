@@ -54,8 +54,6 @@ byte-written byte_written
 bytes-from bytes_from
 code-width code_width
 codec-number codec_number
-cond-false cond_false
-cond-true cond_true
 copied-answer copied_answer
 copied-bytes copied_bytes
 copied-laid copied_laid

@@ -1,7 +1,7 @@
 -- Bytes pushed one part after another. Assumes nothing.
 use Rattle.std.proofs.Common.{◌≡◌, ℕ, ◌+◌, ◌/◌, ◌%◌, ◌<◌, ◌≤◌, List, [], ◌∷◌, ◌++◌, length, get_or, drop, decimal, sym, ap, ◌∙◌, append_assoc, append-nil, add-one, arith, drop_of_length-le, drop-cons}
 use Rattle.std.proofs.lemmas.Fmt.{length-decimal-le}
-use Rattle.std.proofs.lemmas.Bool.{le-leb, cond_true}
+use Rattle.std.proofs.lemmas.Bool.{le-leb, cond-true}
 use Rattle.columns.specs.Columns.{padded, fits, justified}
 use Rattle.disassembly.specs.Listings.{hex_digit, hexes}
 
@@ -18,7 +18,7 @@ then_five v w x y z t a b c d e p q r s u =
 -- an address has at most five figures
 pub address : (at : ℕ) → at ≤ 65536 → justified (32 ∷ 32 ∷ 32 ∷ 32 ∷ 32 ∷ []) at ≡ padded 5 at
 address at h =
-    cond_true (fits 5 at) (padded 5 at) (32 ∷ 32 ∷ 32 ∷ 32 ∷ 32 ∷ []) (le-leb (length (decimal at)) 5 (length-decimal-le 5 at (omega arith) (omega arith) (omega arith)))
+    cond-true (fits 5 at) (padded 5 at) (32 ∷ 32 ∷ 32 ∷ 32 ∷ 32 ∷ []) (le-leb (length (decimal at)) 5 (length-decimal-le 5 at (omega arith) (omega arith) (omega arith)))
 
 -- one byte more in hexadecimal, and no byte left
 pub hex_more : (out out' bytes all : List ℕ) (i d e : ℕ) → i < length bytes → d ≡ hex_digit (get_or bytes i 0 / 16) → e ≡ hex_digit (get_or bytes i 0 % 16) → out' ≡ out ++ (32 ∷ d ∷ e ∷ []) → out ++ hexes (drop i bytes) ≡ all → out' ++ hexes (drop (i + 1) bytes) ≡ all

@@ -1,6 +1,6 @@
 -- What a listing has written, from line to line. Assumes nothing.
 use Rattle.std.proofs.Common.{◌≡◌, ℕ, zero, suc, ◌+◌, ◌-◌, ◌<◌, ◌≤◌, leb, List, [], ◌∷◌, ◌++◌, length, take, Ok, Err, Result, sym, refl, ap, ◌∙◌, append_assoc, arith}
-use Rattle.std.proofs.lemmas.Bool.{le-leb, lt-leb, cond_true, cond_false}
+use Rattle.std.proofs.lemmas.Bool.{le-leb, lt-leb, cond-true, cond-false}
 use Rattle.records.specs.declared.refusal.DecodeError.{DecodeError}
 use Rattle.records.specs.Codec.{Decoded, decoded, gives}
 use Rattle.records.specs.Instructions.{Instruction}
@@ -67,8 +67,8 @@ at_end filter (b ∷ rest) count out out' none inv p = absurd (omega arith)
 -- by the filter's length
 pub within : (s out : List ℕ) → length s ≤ 65536 → out ≡ listed (length s) 0 0 s → out ≡ listing s
 unfolding listing
-within s out h e = e ∙ sym (cond_true (leb (length s) 65536) (listed (length s) 0 0 s) too_long (le-leb (length s) 65536 h))
+within s out h e = e ∙ sym (cond-true (leb (length s) 65536) (listed (length s) 0 0 s) too_long (le-leb (length s) 65536 h))
 
 pub beyond : (s out : List ℕ) → 65536 < length s → out ≡ too_long → out ≡ listing s
 unfolding listing
-beyond s out h e = e ∙ sym (cond_false (leb (length s) 65536) (listed (length s) 0 0 s) too_long (lt-leb (length s) 65536 h))
+beyond s out h e = e ∙ sym (cond-false (leb (length s) 65536) (listed (length s) 0 0 s) too_long (lt-leb (length s) 65536 h))

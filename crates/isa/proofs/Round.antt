@@ -1,6 +1,6 @@
 -- Decoding undoes encoding, and encoding undoes decoding. Assumes nothing.
 use Rattle.std.proofs.Common.{◌≡◌, ℕ, ◌+◌, ◌*◌, ◌/◌, ◌%◌, ◌^◌, ◌<◌, Bool, true, false, eqb, List, [], ◌∷◌, ◌++◌, get_or, Some, None, Ok, Err, Option, sym, refl, ap, ◌∙◌, subst, arith}
-use Rattle.std.proofs.lemmas.Bool.{cond_true, cond_false}
+use Rattle.std.proofs.lemmas.Bool.{cond-true, cond-false}
 use Rattle.opcodes.specs.declared.format.Format.{Format}
 use Rattle.opcodes.specs.declared.format.Format.TheVariants.{RegRegReg, RegRegShift, RegRegImm, RegLongImm, Branch, Memory, RegReg, RegImm, RegShift, Reg, Jump, Stack, Bare}
 use Rattle.opcodes.specs.declared.kind.Kind.{Kind}
@@ -24,13 +24,13 @@ first_of : (b : Bool) (low h t : ℕ) (rest : List ℕ) (x : Instruction) → eq
 unfolding decoded
 first_of true low h t rest x e z d =
     let s : List ℕ = low ∷ h ∷ t ∷ rest in
-    ap (decoded_from s) (cond_true (eqb (low % 2) 1) (Ok (cut (three low h t) rest)) (Ok (cut (two low h) (t ∷ rest))) e) ∙ ap (λ (o : Option Instruction). answered s o rest) d
+    ap (decoded_from s) (cond-true (eqb (low % 2) 1) (Ok (cut (three low h t) rest)) (Ok (cut (two low h) (t ∷ rest))) e) ∙ ap (λ (o : Option Instruction). answered s o rest) d
 first_of false low h t [] x e z d =
     let s : List ℕ = low ∷ h ∷ [] in
-    ap (decoded_from s) (cond_false (eqb (low % 2) 1) (Err CutShort) (Ok (cut (two low h) [])) e) ∙ ap (λ (o : Option Instruction). answered s o []) (ap (held low h) (sym (z refl)) ∙ d)
+    ap (decoded_from s) (cond-false (eqb (low % 2) 1) (Err CutShort) (Ok (cut (two low h) [])) e) ∙ ap (λ (o : Option Instruction). answered s o []) (ap (held low h) (sym (z refl)) ∙ d)
 first_of false low h t (n ∷ rest) x e z d =
     let s : List ℕ = low ∷ h ∷ n ∷ rest in
-    ap (decoded_from s) (cond_false (eqb (low % 2) 1) (Ok (cut (three low h n) rest)) (Ok (cut (two low h) (n ∷ rest))) e) ∙ ap (λ (o : Option Instruction). answered s o (n ∷ rest)) (ap (held low h) (sym (z refl)) ∙ d)
+    ap (decoded_from s) (cond-false (eqb (low % 2) 1) (Ok (cut (three low h n) rest)) (Ok (cut (two low h) (n ∷ rest))) e) ∙ ap (λ (o : Option Instruction). answered s o (n ∷ rest)) (ap (held low h) (sym (z refl)) ∙ d)
 
 -- what follows the first byte, by its parts
 pub record Followed (f : Format) (x : Fields) : Type 0 where

@@ -1,7 +1,7 @@
 -- The calls that encode and decode, by what each of the two ensures. Assumes nothing.
 use Rattle.std.proofs.Common.{◌≡◌, ℕ, suc, ◌-◌, ◌<◌, Bool, true, false, cond, leb, List, [], ◌∷◌, ◌++◌, length, get_or, take, drop, Ok, Err, Result, sym, refl, ap, ◌∙◌, arith, length-append}
 use lib.Seq.{take-append_seam}
-use Rattle.std.proofs.lemmas.Bool.{cond_true}
+use Rattle.std.proofs.lemmas.Bool.{cond-true}
 use Rattle.isa.specs.declared.refusal.CodecError.TheVariants.{Decode}
 use Rattle.records.specs.declared.record.Record.{Record}
 use Rattle.records.specs.declared.refusal.DecodeError.{DecodeError}
@@ -28,7 +28,7 @@ no_room false n e x h = let d : NoRoom ≡ e = cc in ap (λ (v : EncodeError). E
 
 module _ (x : Instruction) (before : List ℕ) where
   pub through_laid : (n : ℕ) → laid_answer (encoded x) before ≡ Ok n → Ok x ≡ through x before
-  through_laid n e = sym (cond_true (leb (length (encoded x)) (length before)) (Ok x) (Err NoRoom) (room _ (length (encoded x)) n e))
+  through_laid n e = sym (cond-true (leb (length (encoded x)) (length before)) (Ok x) (Err NoRoom) (room _ (length (encoded x)) n e))
 
   pub through_refused : (e : EncodeError) → laid_answer (encoded x) before ≡ Err e → Err e ≡ through x before
   through_refused e h = no_room (leb (length (encoded x)) (length before)) (length (encoded x)) e x h
@@ -38,7 +38,7 @@ module _ (x : Instruction) (before : List ℕ) where
   comes_back s n after o rest e l d =
       let bs = encoded x in
       let fits = room (leb (length bs) (length before)) (length bs) n e in
-      let stands : after ≡ bs ++ drop (length bs) before = l ∙ cond_true (leb (length bs) (length before)) (bs ++ drop (length bs) before) before fits in
+      let stands : after ≡ bs ++ drop (length bs) before = l ∙ cond-true (leb (length bs) (length before)) (bs ++ drop (length bs) before) before fits in
       ap (λ (v : Decoded). v.answer) (d ∙ ap decoded stands ∙ undoes x s (drop (length bs) before))
 
 -- the elements of a byte slice are bytes

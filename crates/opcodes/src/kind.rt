@@ -1,9 +1,7 @@
 // The fifty kinds of instruction, and what each is: its number, its name as typed, its code and its format.
-ghost use Rattle.std.specs.Prelude.{◌≡◌, Decides};
+ghost use Rattle.std.specs.Prelude.{◌≡◌, ◌==◌, Decides};
 ghost use Rattle.opcodes.specs.Kinds.{number, name, code, format, kind_numbered};
-ghost use Rattle.std.specs.Cmp.Rules.{comparing};
-ghost use Rattle.std.proofs.Common.{rules};
-ghost use Rattle.std.specs.Cmp as Keys;
+ghost use Rattle.opcodes.specs.Equality.{equal_numbers};
 
 use crate::format::Format;
 
@@ -117,11 +115,15 @@ const KINDS: &[Kind; 50] = &[
 ];
 
 impl PartialEq for Kind {
-    ghost equals = { λ x y r. Decides r (x ≡ y) };
+    ghost eq = { λ x y. number x == number y };
 
-    ghost laws = { Keys.partial_equiv_from_equiv (Prim.search (comparing, rules)) };
+    ghost laws = { equal_numbers };
 
-    fn eq(&self, other: &Kind) -> bool {
+    // Kinds are equal where they are the same kind.
+    fn eq(&self, other: &Kind) -> bool
+        ensures value { result ≡ (number self.now == number other.now) }
+        ensures same { Decides result (self.now ≡ other.now) }
+    {
         *self as u8 == *other as u8
     }
 }

@@ -1,4 +1,6 @@
 // The kinds of CAHPv3 instructions and the opcode table.
+#![tactic(auto)]
+
 mod format;
 mod kind;
 mod law;

@@ -1,7 +1,7 @@
 -- The first bytes of a slice, as slice patterns bind them, and what decoding makes of them. Assumes nothing.
 use Rattle.std.proofs.Common.{◌≡◌, ℕ, suc, ◌+◌, ◌-◌, ◌%◌, ◌<◌, ◌≤◌, Bool, true, false, cond, eqb, List, [], ◌∷◌, ◌++◌, length, get_or, take, drop, Some, None, Ok, Err, Option, sym, refl, ap, ◌∙◌, arith, length-append}
 use Rattle.std.proofs.lemmas.List.{take_all}
-use Rattle.std.proofs.lemmas.Bool.{cond_true, cond_false}
+use Rattle.std.proofs.lemmas.Bool.{cond-true, cond-false}
 use Rattle.records.specs.declared.refusal.DecodeError.{DecodeError}
 use Rattle.records.specs.declared.refusal.DecodeError.TheVariants.{Empty, CutShort, Undefined}
 use Rattle.records.specs.Codec.{two, three, split, cut, held, Decoded, gives, answered, decoded_from, decoded}
@@ -15,14 +15,14 @@ split_three [] h e = absurd (omega arith)
 split_three (low ∷ []) h e = absurd (omega arith)
 split_three (low ∷ high ∷ []) h e = absurd (omega arith)
 split_three (low ∷ high ∷ top ∷ rest) h e =
-    cond_true (eqb (low % 2) 1) _ _ e ∙ ap (λ (r : List ℕ). Ok (cut (three low high top) r)) (whole rest (suc (suc (suc (length rest)))) 3 (omega arith))
+    cond-true (eqb (low % 2) 1) _ _ e ∙ ap (λ (r : List ℕ). Ok (cut (three low high top) r)) (whole rest (suc (suc (suc (length rest)))) 3 (omega arith))
 
 pub split_two : (s : List ℕ) → 2 ≤ length s → eqb (get_or s 0 0 % 2) 1 ≡ false → split s ≡ Ok (cut (two (get_or s 0 0) (get_or s 1 0)) (take (length s - 2) (drop 2 s)))
 split_two [] h e = absurd (omega arith)
 split_two (low ∷ []) h e = absurd (omega arith)
-split_two (low ∷ high ∷ []) h e = cond_false (eqb (low % 2) 1) _ _ e
+split_two (low ∷ high ∷ []) h e = cond-false (eqb (low % 2) 1) _ _ e
 split_two (low ∷ high ∷ top ∷ rest) h e =
-    cond_false (eqb (low % 2) 1) _ _ e ∙ ap (λ (r : List ℕ). Ok (cut (two low high) r)) (whole (top ∷ rest) (suc (suc (suc (length rest)))) 2 (omega arith))
+    cond-false (eqb (low % 2) 1) _ _ e ∙ ap (λ (r : List ℕ). Ok (cut (two low high) r)) (whole (top ∷ rest) (suc (suc (suc (length rest)))) 2 (omega arith))
 
 -- what an accepted string says of its parts
 answered_ok : (s : List ℕ) (o : Option Instruction) (r : List ℕ) (x : Instruction) (rest : List ℕ) → answered s o r ≡ gives (Ok x) rest → (o ≡ Some x) × (r ≡ rest)

@@ -1,4 +1,6 @@
 // The fields of an instruction: register numbers, and numbers in the bits of its bytes.
+#![tactic(auto)]
+
 mod bits;
 mod register;
 

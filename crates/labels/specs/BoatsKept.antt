@@ -42,6 +42,7 @@ union_up_to zero reader (suc a) b h k = absurd (omega arith)
 union_up_to zero reader zero (suc b) h k = absurd (omega arith)
 union_up_to (suc n) reader a b h k = union_step reader a b (union_up_to n (reader / 2) (a / 2) (b / 2) (omega arith) (omega arith))
 
+-- labels of any size
 union_among : (reader a b : ℕ) → UnionAmong reader a b
 union_among reader a b = union_up_to (max a b) reader a b (omega arith) (omega arith)
 

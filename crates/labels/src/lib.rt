@@ -1,4 +1,6 @@
 // Labels: how two are joined, and which of them a reader sees.
+#![tactic(auto)]
+
 mod boats;
 mod labelling;
 mod ranks;

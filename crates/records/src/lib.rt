@@ -1,4 +1,6 @@
 // Records of CAHPv3 instructions: making, decoding and encoding them.
+#![tactic(auto)]
+
 mod image;
 mod layout;
 mod operands;

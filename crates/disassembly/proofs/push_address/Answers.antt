@@ -4,5 +4,5 @@ use Rattle.disassembly.proofs.push_address.Goals as goal
 
 pub returns : goal.returns
 returns c =
-    c.in-ok-extend-from-slice.ensures.items
+    c.in_ok-extend_from_slice.ensures.items
     ∙ ap (λ (l : List ℕ). vec_items c.args.out.now ++ l) (c.justify.ensures.after ∙ address c.args.at c.requires)

@@ -10,9 +10,9 @@ pub returns : goal.returns
 unfolding line
 returns c =
     let bs = c.args.bytes.now in
-    then_five (vec_items c.args.out.now) (vec_items c.push-address.new.out) (vec_items c.push.new.self) (vec_items c.push-hex.new.out) (vec_items c.extend-from-slice.new.self) (vec_items c.extend-from-slice-2.new.self) (padded 5 c.args.at) (codes " ") (hexes bs) (gap (length bs)) (codes "  " ++ (text (meaning c.args.record) ++ codes "\n"))
-    c.in-ok-push-address.ensures
-    c.in-ok-push.ensures.items
-    c.in-ok-push-hex.ensures
-    (c.in-ok-extend-from-slice.ensures.items ∙ ap (λ (l : List ℕ). vec_items c.push-hex.new.out ++ l) c.gap.ensures)
-    (c.in-ok-extend-from-slice-2.ensures.items ∙ ap (λ (l : List ℕ). vec_items c.extend-from-slice.new.self ++ l) (c.as-bytes.ensures.value ∙ c.in-ok-text.ensures.ok))
+    then_five (vec_items c.args.out.now) (vec_items c.push_address.new.out) (vec_items c.push.new.self) (vec_items c.push_hex.new.out) (vec_items c.extend_from_slice.new.self) (vec_items c.extend_from_slice-2.new.self) (padded 5 c.args.at) (codes " ") (hexes bs) (gap (length bs)) (codes "  " ++ (text (meaning c.args.record) ++ codes "\n"))
+    c.in_ok-push_address.ensures
+    c.in_ok-push.ensures.items
+    c.in_ok-push_hex.ensures
+    (c.in_ok-extend_from_slice.ensures.items ∙ ap (λ (l : List ℕ). vec_items c.push_hex.new.out ++ l) c.gap.ensures)
+    (c.in_ok-extend_from_slice-2.ensures.items ∙ ap (λ (l : List ℕ). vec_items c.extend_from_slice.new.self ++ l) (c.as_bytes.ensures.value ∙ c.in_ok-text.ensures.ok))

@@ -9,10 +9,10 @@ pub returns : goal.returns
 unfolding refusal_line
 returns c =
     let e = c.args.refusal in
-    let words : c.as-bytes.result.now ≡ codes "  " ++ (decimal (decode_number e) ++ (codes " " ++ (decode_message e ++ codes "\n"))) =
-    c.as-bytes.ensures.value
-    ∙ c.in-ok-text.ensures.ok
+    let words : c.as_bytes.result.now ≡ codes "  " ++ (decimal (decode_number e) ++ (codes " " ++ (decode_message e ++ codes "\n"))) =
+    c.as_bytes.ensures.value
+    ∙ c.in_ok-text.ensures.ok
     ∙ ap (λ (n : ℕ). codes "  " ++ (decimal n ++ (codes " " ++ (c.message-message.result.now ++ codes "\n")))) c.number-number.ensures
     ∙ ap (λ (m : List ℕ). codes "  " ++ (decimal (decode_number e) ++ (codes " " ++ (m ++ codes "\n")))) c.message-message.ensures in
-    then (vec_items c.args.out.now) (vec_items c.push-address.new.out) _ (padded 5 c.args.at) _ c.in-ok-push-address.ensures
-    (c.in-ok-extend-from-slice.ensures.items ∙ ap (λ (l : List ℕ). vec_items c.push-address.new.out ++ l) words)
+    then (vec_items c.args.out.now) (vec_items c.push_address.new.out) _ (padded 5 c.args.at) _ c.in_ok-push_address.ensures
+    (c.in_ok-extend_from_slice.ensures.items ∙ ap (λ (l : List ℕ). vec_items c.push_address.new.out ++ l) words)

@@ -3,7 +3,7 @@ use Rattle.records.proofs.Splits.{split_three, split_two}
 use Rattle.records.proofs.image.split.Goals as goal
 
 pub returns-in-len3-up : goal.returns-in-len3-up
-returns-in-len3-up c = split_three c.args.bytes.now (omega (arith, ltb-false)) (sym c.if-is-long.ensures)
+returns-in-len3-up c = split_three c.args.bytes.now (omega (arith, ltb-false)) (sym c.if-is_long.ensures)
 
 pub returns-in-len2-up : goal.returns-in-len2-up
 returns-in-len2-up c =

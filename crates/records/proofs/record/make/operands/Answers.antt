@@ -14,7 +14,7 @@ returns c =
     let fits : SFits w16 i = search rules in
     let found = c.in-Some.ensures in
     taken_passed f c.args.a c.args.b c.args.c i found.1 found.2 found.3 (to_z-of_z w16 i fits) found.0
-    (ap (λ (s : Shape). unused_zero s c.args.a c.args.b c.args.c i) (sym c.of-shape.ensures) ∙ sym c.if-not-unused-zero.ensures)
-    (ap (λ (s : Shape). in_range s i) (sym c.of-shape.ensures) ∙ sym c.if-not-in-range.ensures)
-    (ap (λ (s : Shape). even_enough s i) (sym c.of-shape.ensures) ∙ sym c.if-not-even-enough.ensures)
+    (ap (λ (s : Shape). unused_zero s c.args.a c.args.b c.args.c i) (sym c.of-shape.ensures) ∙ sym c.if-not-unused_zero.ensures)
+    (ap (λ (s : Shape). in_range s i) (sym c.of-shape.ensures) ∙ sym c.if-not-in_range.ensures)
+    (ap (λ (s : Shape). even_enough s i) (sym c.of-shape.ensures) ∙ sym c.if-not-even_enough.ensures)
     ∙ ap (taken f c.args.a c.args.b c.args.c) same

@@ -9,28 +9,32 @@ use Rattle.std.specs.List.{range_with_len}
 abbrev More : ℕ → List ℕ → Type 0
 More n ds = (k : ℕ) → 10 ^ k ≤ n → k < length ds
 
+-- a number below 10
 one_figure : (n : ℕ) → n < 10 → More n ((48 + n) ∷ [])
 one_figure n h zero le = omega arith
 one_figure n h (suc k) le =
     let big : 1 ≤ 10 ^ k = pow-le-pow_right (lit< tt) {i = 0} {j = k} (omega arith) in
     absurd (omega (arith, pow-suc 10 k))
 
+-- a number whose front has them, with one figure after it
 figure_more : (n : ℕ) (ds : List ℕ) → 10 ≤ n → More (n / 10) ds → More n (ds ++ ((48 + n % 10) ∷ []))
 figure_more n ds h before zero le = omega (arith, length-append ds ((48 + n % 10) ∷ []))
 figure_more n ds h before (suc k) le =
     let less : k < length ds = before k (omega (arith, pow-suc 10 k)) in
     omega (arith, length-append ds ((48 + n % 10) ∷ []))
 
+-- each number of 64 bits, one figure at a time
 more_figures : (n : ℕ) → n < 2 ^ 64 → More n (decimal n)
 more_figures = decimal_by_steps More one_figure figure_more
 
--- the count of figures, from the powers on both sides of a number; 0 has one figure
+-- the count of figures, from the powers on both sides of a number
 pub counted : (n k : ℕ) → n < 2 ^ 64 → 1 ≤ k → n < 10 ^ k → 10 ^ (k - 1) ≤ n → k ≡ length (decimal n)
 counted n k s one below above =
     let most = length-decimal-le k n one below s in
     let least = more_figures n s (k - 1) above in
     omega arith
 
+-- a number below 10 has one figure, 0 too
 pub counted_one : (n : ℕ) → n < 10 → 1 ≡ length (decimal n)
 counted_one n h = ap length (sym (decimal_digit n h))
 
@@ -38,11 +42,14 @@ counted_one n h = ap length (sym (decimal_digit n h))
 abbrev powers : List ℕ
 powers = map (λ k. 10 ^ k) (range_with_len 0 20)
 
+-- what the table holds at a place
 power_at : (i : ℕ) → i < 20 → get_or powers i 0 ≡ 10 ^ i
 power_at i h = get_or-map-range_with_len (λ k. 10 ^ k) 0 20 i i 0 h (omega arith)
 
+-- a number below an entry of the table, as the loop goes on
 pub below_power : (n i : ℕ) → i < 20 → n < get_or powers i 0 → n < 10 ^ i
 below_power n i h lt = subst (λ (m : ℕ). n < m) (power_at i h) lt
 
+-- a number not below an entry, as the loop stops
 pub from_power : (n i : ℕ) → i < 20 → get_or powers i 0 ≤ n → 10 ^ i ≤ n
 from_power n i h le = subst (λ (m : ℕ). m ≤ n) (power_at i h) le

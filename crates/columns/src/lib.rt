@@ -1,4 +1,6 @@
 // Numbers right-justified with leading blanks in columns.
+#![tactic(auto)]
+
 ghost use Rattle.std.specs.Prelude.{◌≡◌, ◌+◌, ◌≤◌, ◌++◌, length, drop, replicate, decimal};
 ghost use Rattle.columns.specs.Columns.{justified_answer, justified, justified_at_answer, justified_at};
 

@@ -1,11 +1,8 @@
-use Rattle.std.proofs.Common.{◌∙◌}
-use Rattle.columns.proofs.Laid.{laid_answer, laid}
+use Rattle.std.proofs.Common.{arith}
+use Rattle.std.proofs.lemmas.Grind.{common_steps}
+use Rattle.columns.specs.Columns.{padded}
 use Rattle.columns.proofs.justify.Goals as goal
 
-pub returns : goal.returns
-returns c =
-    let begin = c.put-figures-at.ensures.begin in
-    record {
-      answer = laid_answer c.args.field.now c.args.n c.put-figures-at.result begin;
-      after = c.put-blanks.ensures ∙ laid c.args.field.now c.args.n c.put-figures-at.result begin c.put-figures-at.new.field c.put-figures-at.ensures.written;
-    }
+pub returns-clause-after : goal.returns-clause-after
+unfolding padded
+returns-clause-after c = grind (arith, common_steps)

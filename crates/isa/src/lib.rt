@@ -1,4 +1,6 @@
 // The CAHPv3 instruction set: kinds, the opcode table, records, their bytes and their text.
+#![tactic(auto)]
+
 mod examples;
 mod refusal;
 mod round_trip;

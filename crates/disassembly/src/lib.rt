@@ -1,4 +1,6 @@
 // The listing of a filter: a line for each instruction, with its address, its bytes and its text.
+#![tactic(auto)]
+
 ghost use Rattle.std.specs.Prelude.{◌≡◌, ◌-◌, ◌<◌, ◌≤◌, ◌++◌, length, take, IfOk, OnOk};
 ghost use Rattle.columns.specs.Columns.{padded};
 ghost use Rattle.records.specs.Records.{meaning};
@@ -168,7 +170,7 @@ mod tests {
     fn a_longer_filter_is_refused(rt: HostRuntime) -> Result<(), Fail> {
         let filter = vec![in rt.alloc(); 0u8; LIMIT + 1]?;
         let text = listing(rt.alloc(), &filter)?;
-        assert!(rt; text.as_slice() == b"a filter has at most 65536 bytes\n");
+        assert!(rt; text.as_slice() == b"a filter has at most 65536 bytes\n".as_slice());
         Ok(())
     }
 }

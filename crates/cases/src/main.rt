@@ -1,4 +1,6 @@
 // Tries the instruction set on a table of cases, and prints what each gives.
+#![tactic(auto)]
+
 use disassembly::listing;
 use isa::{Record, decode, decode_encoded, encode_decoded, lookup};
 use std::io::Write;

@@ -1,4 +1,6 @@
 // Lists the filter on standard input.
+#![tactic(auto)]
+
 use disassembly::{LIMIT, listing};
 use std::io;
 use std::io::{Read, Write};

@@ -7,7 +7,7 @@ use crate::{Cell, ReadingEnd, Store, StoreFault};
 
 // Are all the addresses inside, as many as the count, in a row from the first?
 fn check_inside<R: ReadingEnd>(end: &R, first: u32, count: usize) -> Result<(), StoreFault>
-    ensures { result ≡ all_inside (cells end.now) first count (Ok tt) }
+    ensures { result ≡ all_inside (R.cells end.now) first count (Ok tt) }
 {
     let size = end.size();
     if count <= size.saturating_sub(first) as usize {
@@ -20,7 +20,7 @@ fn check_inside<R: ReadingEnd>(end: &R, first: u32, count: usize) -> Result<(), 
 // Are the addresses from the first up to the end, which are all inside, all unprotected?
 fn check_free<S: Store>(store: &S, first: u32, end: u32) -> Result<(), StoreFault>
     requires { first < end → end ≤ length (S.ReadingEnd.cells store.now) }
-    ensures { result ≡ all_free (stored S.ReadingEnd S.Store store.now) first (end - first) (Ok tt) }
+    ensures { result ≡ all_free (stored S.ReadingEnd S.Store.own store.now) first (end - first) (Ok tt) }
 {
     for at in first..end {
         if store.protected(at)? {
@@ -32,7 +32,7 @@ fn check_free<S: Store>(store: &S, first: u32, end: u32) -> Result<(), StoreFaul
 
 // The two questions of a block, in their order.
 fn check_block<S: Store>(store: &S, first: u32, count: usize) -> Result<(), StoreFault>
-    ensures { result ≡ block_answer (stored S.ReadingEnd S.Store store.now) first count }
+    ensures { result ≡ block_answer (stored S.ReadingEnd S.Store.own store.now) first count }
 {
     check_inside(store, first, count)?;
     check_free(store, first, first + count as u32)
@@ -46,11 +46,11 @@ pub fn write_block<S: Store>(
     bytes: &[u8],
     label: u8,
 ) -> Result<(), StoreFault>
-    ensures answer { result ≡ block_answer (stored S.ReadingEnd S.Store store.old) address (length bytes.now) }
-    ensures memory { stored S.ReadingEnd S.Store store.new ≡ block_written (stored S.ReadingEnd S.Store store.old) address bytes.now label }
-    ensures frame { frame store.new ≡ frame store.old }
-    ensures row { AllOrNothing result (stored S.ReadingEnd S.Store store.old) (stored S.ReadingEnd S.Store store.new) address bytes.now label }
-    ensures lowest { RefusedAtLowest (stored S.ReadingEnd S.Store store.old) address (address + length bytes.now) result }
+    ensures answer { result ≡ block_answer (stored S.ReadingEnd S.Store.own store.old) address (length bytes.now) }
+    ensures memory { stored S.ReadingEnd S.Store.own store.new ≡ block_written (stored S.ReadingEnd S.Store.own store.old) address bytes.now label }
+    ensures frame { S.frame store.new ≡ S.frame store.old }
+    ensures row { AllOrNothing result (stored S.ReadingEnd S.Store.own store.old) (stored S.ReadingEnd S.Store.own store.new) address bytes.now label }
+    ensures lowest { RefusedAtLowest (stored S.ReadingEnd S.Store.own store.old) address (address + length bytes.now) result }
 {
     let mut at = u32::from(address);
     check_block(store, at, bytes.len())?;

@@ -33,11 +33,11 @@ pub trait Store: ReadingEnd {
 
     // Whether an address is protected; 41 outside the size.
     fn protected(&self, address: u32) -> Result<bool, StoreFault>
-        ensures { result ≡ asked (memory (cells self.now) (protects self.now)) address };
+        ensures { result ≡ asked (memory (Self.cells self.now) (protects self.now)) address };
 
     // Sets one cell; 41 outside the size, then 42 at a protected address. A refused write changes nothing.
     fn write(&mut self, address: u32, cell: Cell) -> Result<(), StoreFault>
-        ensures answer { result ≡ write_answer (memory (cells self.old) (protects self.old)) address }
-        ensures memory { memory (cells self.new) (protects self.new) ≡ written (memory (cells self.old) (protects self.old)) address cell }
+        ensures answer { result ≡ write_answer (memory (Self.cells self.old) (protects self.old)) address }
+        ensures memory { memory (Self.cells self.new) (protects self.new) ≡ written (memory (Self.cells self.old) (protects self.old)) address cell }
         ensures frame { frame self.new ≡ frame self.old };
 }

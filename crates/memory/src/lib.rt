@@ -1,4 +1,6 @@
 // What a memory is: cells, the ends that are read, the stores that are also written, and blocks of bytes put into them.
+#![tactic(auto)]
+
 mod block;
 mod cell;
 mod ends;

@@ -1,4 +1,6 @@
 // Stores and reading ends, with what a memory is under the same name.
+#![tactic(auto)]
+
 mod echo;
 mod flat;
 mod joint;

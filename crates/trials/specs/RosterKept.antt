@@ -1,7 +1,8 @@
 -- Ranks in a table keep the laws of a labelling, since plain ranks do.
 -- Assumes nothing.
 use Rattle.std.specs.Prelude.{◌≡◌, ℕ, max, cond, List}
-use Rattle.std.proofs.Common.{ap, ◌∙◌, ⊎_elim, arith}
+use Rattle.std.proofs.Common.{sym, ap, ◌∙◌, ⊎_elim}
+use Rattle.std.proofs.Math.Nat.{le_of_lt, max-eq_left, max-eq_right}
 use Rattle.std.proofs.lemmas.Bool.Decides.{leb_tells}
 use Rattle.labels.specs.Laws.{OpenToAll, SeenAsBoth}
 use Rattle.labels.specs.Ranks.{up_to}
@@ -16,8 +17,8 @@ module _ (ranks : List ℕ) where
   senior_rank : (a b : ℕ) → rank ranks (senior ranks a b) ≡ max (rank ranks a) (rank ranks b)
   senior_rank a b =
       ⊎_elim
-      (λ first. ap (λ t. rank ranks (cond t a b)) first.0 ∙ omega (arith, first.1))
-      (λ second. ap (λ t. rank ranks (cond t a b)) second.0 ∙ omega (arith, second.1))
+      (λ first. ap (λ t. rank ranks (cond t a b)) first.0 ∙ sym (max-eq_left first.1))
+      (λ second. ap (λ t. rank ranks (cond t a b)) second.0 ∙ sym (max-eq_right (le_of_lt second.1)))
       (leb_tells (rank ranks b) (rank ranks a))
 
   pub seen_as_both : SeenAsBoth (senior ranks) (outranked ranks)

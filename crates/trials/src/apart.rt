@@ -12,7 +12,7 @@ pub fn write_then_part<S: Store, R: ReadingEnd>(
     address: u32,
     cell: Cell,
 ) -> (S, R)
-    ensures lower { stored S.ReadingEnd S.Store result.0 ≡ written (stored S.ReadingEnd S.Store lower) address cell }
+    ensures lower { stored S.ReadingEnd S.Store.own result.0 ≡ written (stored S.ReadingEnd S.Store.own lower) address cell }
     ensures frame { S.Store.frame result.0 ≡ S.Store.frame lower }
     ensures upper { result.1 ≡ upper }
 {

@@ -12,8 +12,8 @@ pub fn write_then_look<S: Store>(
     address: u32,
     cell: Cell,
 ) -> Result<Cell, StoreFault>
-    ensures answer { result ≡ then_looked (write_answer (stored S.ReadingEnd S.Store store.old) address) cell }
-    ensures memory { stored S.ReadingEnd S.Store store.new ≡ written (stored S.ReadingEnd S.Store store.old) address cell }
+    ensures answer { result ≡ then_looked (write_answer (stored S.ReadingEnd S.Store.own store.old) address) cell }
+    ensures memory { stored S.ReadingEnd S.Store.own store.new ≡ written (stored S.ReadingEnd S.Store.own store.old) address cell }
     ensures frame { S.Store.frame store.new ≡ S.Store.frame store.old }
 {
     store.write(address, cell)?;
@@ -27,11 +27,11 @@ pub fn look_elsewhere<S: Store>(
     cell: Cell,
     other: u32,
 ) -> Result<Cell, StoreFault>
-    ensures answer { result ≡ looked (written (stored S.ReadingEnd S.Store store.old) address cell).cells other }
+    ensures answer { result ≡ looked (written (stored S.ReadingEnd S.Store.own store.old) address cell).cells other }
     ensures elsewhere { (other ≢ address) → result ≡ looked (S.ReadingEnd.cells store.old) other }
     ensures size { length (S.ReadingEnd.cells store.new) ≡ length (S.ReadingEnd.cells store.old) }
-    ensures protection { (stored S.ReadingEnd S.Store store.new).protected ≡ (stored S.ReadingEnd S.Store store.old).protected }
-    ensures memory { stored S.ReadingEnd S.Store store.new ≡ written (stored S.ReadingEnd S.Store store.old) address cell }
+    ensures protection { (stored S.ReadingEnd S.Store.own store.new).protected ≡ (stored S.ReadingEnd S.Store.own store.old).protected }
+    ensures memory { stored S.ReadingEnd S.Store.own store.new ≡ written (stored S.ReadingEnd S.Store.own store.old) address cell }
     ensures frame { S.Store.frame store.new ≡ S.Store.frame store.old }
 {
     let _ = store.write(address, cell);
@@ -46,8 +46,8 @@ pub fn block_then_look<S: Store>(
     label: u8,
     place: u32,
 ) -> Result<Cell, StoreFault>
-    ensures answer { result ≡ block_looked (stored S.ReadingEnd S.Store store.old) address bytes.now label place }
-    ensures memory { stored S.ReadingEnd S.Store store.new ≡ block_written (stored S.ReadingEnd S.Store store.old) address bytes.now label }
+    ensures answer { result ≡ block_looked (stored S.ReadingEnd S.Store.own store.old) address bytes.now label place }
+    ensures memory { stored S.ReadingEnd S.Store.own store.new ≡ block_written (stored S.ReadingEnd S.Store.own store.old) address bytes.now label }
     ensures frame { S.Store.frame store.new ≡ S.Store.frame store.old }
 {
     let _ = write_block(store, address, bytes, label);

@@ -1,4 +1,6 @@
 // What a caller can rely on with any store and any labelling, and a labelling of one's own.
+#![tactic(auto)]
+
 mod apart;
 mod callers;
 mod lenders;

@@ -34,7 +34,7 @@ pub fn map_look<S: Store + Drop, R: ReadingEnd + Drop>(
     upper: R,
     address: u32,
 ) -> Result<Cell, StoreFault>
-    ensures { result ≡ looked (joined (stored S.ReadingEnd S.Store lower) (memory (R.ReadingEnd.cells upper) everything)).cells address }
+    ensures { result ≡ looked (joined (stored S.ReadingEnd S.Store.own lower) (memory (R.ReadingEnd.cells upper) everything)).cells address }
 {
     SplitMap::new(lower, upper).look(address)
 }
@@ -45,7 +45,7 @@ pub fn map_protected<S: Store + Drop, R: ReadingEnd + Drop>(
     upper: R,
     address: u32,
 ) -> Result<bool, StoreFault>
-    ensures { result ≡ asked (joined (stored S.ReadingEnd S.Store lower) (memory (R.ReadingEnd.cells upper) everything)) address }
+    ensures { result ≡ asked (joined (stored S.ReadingEnd S.Store.own lower) (memory (R.ReadingEnd.cells upper) everything)) address }
 {
     SplitMap::new(lower, upper).protected(address)
 }
@@ -57,7 +57,7 @@ pub fn map_write<S: Store + Drop, R: ReadingEnd + Drop>(
     address: u32,
     cell: Cell,
 ) -> Result<(), StoreFault>
-    ensures { result ≡ write_answer (joined (stored S.ReadingEnd S.Store lower) (memory (R.ReadingEnd.cells upper) everything)) address }
+    ensures { result ≡ write_answer (joined (stored S.ReadingEnd S.Store.own lower) (memory (R.ReadingEnd.cells upper) everything)) address }
 {
     SplitMap::new(lower, upper).write(address, cell)
 }

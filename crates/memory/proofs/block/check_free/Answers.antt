@@ -12,14 +12,14 @@ pub returns-then-branch : goal.returns-then-branch
 returns-then-branch g c =
     let m = stored g.S.ReadingEnd g.S.Store c.args.store.now in
     let at = c.loop-at.at in
-    let shut = told_free m at _ c.in-ok-protected.ensures ∙ ap not c.if-branch.true in
+    let shut = told_free m at _ c.in_ok-protected.ensures ∙ ap not c.if-branch.true in
     ap (λ (found : Option ℕ). refused_at Protected found (Ok tt)) (sym (failed (free m) at c.args.end c.loop-at-test.true shut) ∙ c.loop-at.invariant)
 
 pub loop-at-preserved : goal.loop-at-preserved
 loop-at-preserved g c =
     let m = stored g.S.ReadingEnd g.S.Store c.args.store.now in
     let at = c.loop-at.at in
-    let free_here = told_free m at _ c.in-ok-protected.ensures ∙ ap not c.if-branch.false in
+    let free_here = told_free m at _ c.in_ok-protected.ensures ∙ ap not c.if-branch.false in
     sym (passed (free m) at c.args.end c.loop-at-test.true free_here) ∙ c.loop-at.invariant
 
 pub returns : goal.returns

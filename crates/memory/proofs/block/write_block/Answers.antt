@@ -1,4 +1,4 @@
-use Rattle.std.proofs.Common.{◌≡◌, length, get_or, Ok, Err, sym, refl, ap, ◌∙◌, arith, rules}
+use Rattle.std.proofs.Common.{◌≡◌, length, get_or, Ok, Err, sym, refl, ap, ◌∙◌, rules}
 use Rattle.std.proofs.lemmas.Result.{err_from_is_err_and}
 use Rattle.memory.specs.Memory.{cell, holding, written}
 use Rattle.memory.specs.Blocks.{placed, block_answer}
@@ -7,14 +7,14 @@ use Rattle.memory.proofs.Blocks.{accepted, answer_accepted, refused_at_lowest, l
 use Rattle.memory.proofs.Placed.{all_or_nothing}
 use Rattle.memory.proofs.block.write_block.Goals as goal
 
-pub returns-in-err-check-block : goal.returns-in-err-check-block
-returns-in-err-check-block g c =
+pub returns-in_err-check_block : goal.returns-in_err-check_block
+returns-in_err-check_block g c =
     let m = stored g.S.ReadingEnd g.S.Store c.args.store.now in
     let bytes = c.args.bytes.now in
-    let same = err_from_is_err_and c.from-residual.result c.from-residual.ensures.1 in
-    let told = c.in-err-check-block.ensures in
+    let same = err_from_is_err_and c.from_residual.result c.from_residual.ensures.1 in
+    let told = c.in_err-check_block.ensures in
     let first = c.from-at.ensures in
-    let answer : Err c.in-err-check-block.field-0.0 ≡ block_answer m c.args.address (length bytes) = cc in
+    let answer : Err c.in_err-check_block.field-0.0 ≡ block_answer m c.args.address (length bytes) = cc in
     let answer_is = same.1 ∙ ap Err same.2 ∙ answer in
     record {
       answer = answer_is;
@@ -27,15 +27,15 @@ returns-in-err-check-block g c =
 pub loop-byte-init : goal.loop-byte-init
 loop-byte-init g c =
     let m = stored g.S.ReadingEnd g.S.Store c.args.store.now in
-    let answer : Ok tt ≡ block_answer m c.from-at.result (length c.args.bytes.now) = c.in-ok-check-block.ensures in
+    let answer : Ok tt ≡ block_answer m c.from-at.result (length c.args.bytes.now) = c.in_ok-check_block.ensures in
     (accepted m c.from-at.result (length c.args.bytes.now) tt answer, ap (λ a. holding m (placed m.cells a c.args.bytes.now c.args.label)) c.from-at.ensures, refl)
 
-pub returns-in-err-write : goal.returns-in-err-write
-returns-in-err-write g c =
+pub returns-in_err-write : goal.returns-in_err-write
+returns-in_err-write g c =
     let m = stored g.S.ReadingEnd g.S.Store c.loop-byte.store in
     let taken = byte_accepted c.args.bytes.now c.loop-byte.byte-index c.loop-byte.at c.args.label c.loop-byte-test.true m c.loop-byte.invariant.0 in
-    let refused = c.in-err-write.ensures.answer in
-    absurd (grind arith)
+    let refused = c.in_err-write.ensures.answer in
+    absurd cc
 
 pub loop-byte-preserved : goal.loop-byte-preserved
 loop-byte-preserved g c =
@@ -51,9 +51,9 @@ returns g c =
     let m = stored g.S.ReadingEnd g.S.Store c.args.store.now in
     let bytes = c.args.bytes.now in
     let left = stored g.S.ReadingEnd g.S.Store c.loop-byte.store in
-    let told = c.in-ok-check-block.ensures in
+    let told = c.in_ok-check_block.ensures in
     let first = c.from-at.ensures in
-    let answer : Ok c.in-ok-check-block.field-0 ≡ block_answer m c.args.address (length bytes) = cc in
+    let answer : Ok c.in_ok-check_block.field-0 ≡ block_answer m c.args.address (length bytes) = cc in
     let ok = accepted m c.args.address (length bytes) _ answer in
     let answer_is = answer_accepted m c.args.address (length bytes) ok in
     let left_is = sym (last_byte bytes c.loop-byte.byte-index c.loop-byte.at c.args.label c.loop-byte-test.false left) ∙ c.loop-byte.invariant.1 ∙ all_placed m c.args.address bytes c.args.label ok in

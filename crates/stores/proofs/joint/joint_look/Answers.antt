@@ -17,7 +17,7 @@ returns-in-Err g c =
     let here = looked_above (g.L.ReadingEnd.cells c.args.lower.now) (g.U.ReadingEnd.cells c.args.upper.now) c.args.address (search rules) (search rules) in
     search rules
 
-pub returns-else-address-lt-MOST-CELLS : goal.returns-else-address-lt-MOST-CELLS
-returns-else-address-lt-MOST-CELLS g c =
+pub returns-else-address-lt-MOST_CELLS : goal.returns-else-address-lt-MOST_CELLS
+returns-else-address-lt-MOST_CELLS g c =
     let here = looked_past (g.L.ReadingEnd.cells c.args.lower.now) (g.U.ReadingEnd.cells c.args.upper.now) c.args.address (search rules) in
     search rules

@@ -1,4 +1,4 @@
-use Rattle.std.proofs.Common.{◌≡◌, ◌++◌, length, sym, ap, ◌∙◌, rules}
+use Rattle.std.proofs.Common.{◌++◌, length, sym, ap, ◌∙◌}
 use Rattle.memory.specs.Memory.{memory, written}
 use Rattle.memory.specs.Stored.{stored}
 use Rattle.stores.specs.Cut.{cut}
@@ -21,7 +21,7 @@ returns g c =
     ∙ c.write.ensures.memory in
     let part = part_written (cells before.lower) (cells after.lower) (heard before.upper) (protects before.lower) (protects after.lower) c.args.address c.args.cell (g.S.ReadingEnd.bounded before.lower) (ap (λ f. f.1) kept) whole in
     record {
-      lower = ap (stored g.S.ReadingEnd g.S.Store) c.into-parts.ensures.lower ∙ part ∙ ap (λ s. written (stored g.S.ReadingEnd g.S.Store s) c.args.address c.args.cell) c.new-map.ensures.lower;
-      frame = ap g.S.Store.frame c.into-parts.ensures.lower ∙ ap (λ f. f.0) kept ∙ ap g.S.Store.frame c.new-map.ensures.lower;
-      upper = c.into-parts.ensures.upper ∙ upper ∙ c.new-map.ensures.upper;
+      lower = ap (stored g.S.ReadingEnd g.S.Store) c.into_parts.ensures.lower ∙ part ∙ ap (λ s. written (stored g.S.ReadingEnd g.S.Store s) c.args.address c.args.cell) c.new-map.ensures.lower;
+      frame = ap g.S.Store.frame c.into_parts.ensures.lower ∙ ap (λ f. f.0) kept ∙ ap g.S.Store.frame c.new-map.ensures.lower;
+      upper = c.into_parts.ensures.upper ∙ upper ∙ c.new-map.ensures.upper;
     }

@@ -1,7 +1,7 @@
 -- The listing of instructions that were encoded, and of what is refused behind them. Assumes nothing.
 use Rattle.std.proofs.Common.{◌≡◌, ℕ, suc, ◌+◌, ◌-◌, ◌≤◌, List, [], ◌∷◌, ◌++◌, length, take, Err, sym, ap, ◌∙◌, append_assoc, add-zero, zero-add, arith, length-append}
 use lib.Seq.{take-append_seam}
-use Rattle.std.specs.List.{AllByRecursion as All}
+use Rattle.std.specs.List.{AllByRecursion}
 use Rattle.records.specs.declared.refusal.DecodeError.{DecodeError}
 use Rattle.records.specs.Codec.{decoded, encoded}
 use Rattle.records.specs.Instructions.{Instruction, Sound}
@@ -14,7 +14,7 @@ stopped : (n at count : ℕ) (s : List ℕ) (e : DecodeError) → (decoded s).an
 stopped n at count [] e d le = none_left n at count
 stopped n at count (b ∷ s) e d le = first_refused n at count (b ∷ s) e (omega arith) le d
 
-all_lines : (n at count : ℕ) (xs : List Instruction) → All Sound xs → (s : List ℕ) (e : DecodeError) → (decoded s).answer ≡ Err e → length (bytes xs ++ s) ≤ n → listed n at count (bytes xs ++ s) ≡ lines at xs ++ (stop (at + length (bytes xs)) s e ++ count_line (count + length xs))
+all_lines : (n at count : ℕ) (xs : List Instruction) → AllByRecursion Sound xs → (s : List ℕ) (e : DecodeError) → (decoded s).answer ≡ Err e → length (bytes xs ++ s) ≤ n → listed n at count (bytes xs ++ s) ≡ lines at xs ++ (stop (at + length (bytes xs)) s e ++ count_line (count + length xs))
 all_lines n at count [] a s e d le =
     stopped n at count s e d le
     ∙ ap (λ (k : ℕ). stop k s e ++ count_line count) (sym (add-zero at))

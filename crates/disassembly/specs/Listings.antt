@@ -1,7 +1,7 @@
 -- The lines of a listing.
 -- Assumes nothing.
 use Rattle.std.specs.Prelude.{◌≡◌, ℕ, zero, suc, ◌+◌, ◌-◌, ◌/◌, ◌%◌, ◌≤◌, cond, List, [], ◌∷◌, ◌++◌, length, take, Some, None, Ok, Err, codes, decimal, Option, Result, ◌==◌, nat_le, nat_lt}
-use Rattle.std.specs.List.{AllByRecursion as All}
+use Rattle.std.specs.List.{AllByRecursion}
 use Rattle.std.specs.Borrow.{Bor}
 use Rattle.columns.specs.Columns.{padded}
 use Rattle.records.specs.declared.refusal.DecodeError.{DecodeError}
@@ -73,4 +73,4 @@ stop at (b ∷ s) e = refusal_line at e
 -- own bytes, then the refusal, then the count; every filter is of this form
 abbrev pub ShowsWhatWasEncoded : Type 0
 ShowsWhatWasEncoded =
-    (xs : List Instruction) → All Sound xs → (s : List ℕ) (e : DecodeError) → (decoded s).answer ≡ Err e → length (bytes xs ++ s) ≤ 65536 → listing (bytes xs ++ s) ≡ lines 0 xs ++ (stop (length (bytes xs)) s e ++ count_line (length xs))
+    (xs : List Instruction) → AllByRecursion Sound xs → (s : List ℕ) (e : DecodeError) → (decoded s).answer ≡ Err e → length (bytes xs ++ s) ≤ 65536 → listing (bytes xs ++ s) ≡ lines 0 xs ++ (stop (length (bytes xs)) s e ++ count_line (length xs))

@@ -38,8 +38,7 @@ pub fn low_byte(bits: u16) -> u8
 
 // The number that raw bits stand for in two's complement, where half is the weight of the sign.
 fn sign_extend(bits: u16, half: u16) -> i16
-    requires below { bits < half + half }
-    requires small { half < 16384 }
+    requires { (bits < half + half) × (half < 16384) }
     ensures { result ≡ signed half bits }
 {
     if bits < half {

@@ -1,8 +1,7 @@
 -- A test that passes at every kind, by one computation over the list of the kinds. Assumes nothing.
 use Rattle.std.proofs.Common.{◌≡◌, ℕ, zero, suc, ◌-◌, Bool, true, false, cond, ◌&&◌, eqb, List, [], ◌∷◌, Some, None, Option, sym, refl, ap, ◌∙◌, subst, arith}
-use Rattle.std.specs.Prelude.{◌==◌, Decides}
 use Rattle.std.specs.List.{slice_get}
-use Rattle.std.proofs.lemmas.Bool.{and_parts, eq-eqb, eqb-true}
+use Rattle.std.proofs.lemmas.Bool.{and_parts}
 use Rattle.opcodes.specs.declared.kind.Kind.{Kind}
 use Rattle.opcodes.specs.declared.kind.Kind.TheVariants.{Add, Sub, And, Xor, Or, Lsl, Lsr, Asr, Addi, Andi, Xori, Ori, Li, Lsli, Lsri, Asri, Beq, Bne, Blt, Bltu, Ble, Bleu, Lw, Lb, Lbu, Sw, Sb, Mov, Add2, Sub2, And2, Xor2, Or2, Lsl2, Lsr2, Asr2, Addi2, Andi2, Lsi, Lui, Lsli2, Lsri2, Asri2, Jalr, Jr, Js, Jsal, Lwsp, Swsp, Nop}
 use Rattle.opcodes.specs.Kinds.{number, kinds, kind_numbered}
@@ -63,10 +62,6 @@ numbered Nop = refl
 
 pub same_number : (j k : Kind) → number j ≡ number k → j ≡ k
 same_number j k e = let d : Some j ≡ Some k = sym (numbered j) ∙ ap kind_numbered e ∙ numbered k in cc
-
--- equal numbers decide whether two kinds are one
-pub decided : (j k : Kind) → Decides (number j == number k) (j ≡ k)
-decided j k = (λ e. same_number j k (eqb-true (number j) (number k) e), λ e. eq-eqb (number j) (number k) (ap number e))
 
 abbrev pub all_of : (Kind → Bool) → List Kind → Bool
 all_of p [] = true

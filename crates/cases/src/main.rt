@@ -15,10 +15,7 @@ impl fmt::Display for Row {
         let high = self.0;
         write!(f, "{high:X}:")?;
         for low in 0..16u8 {
-            let name = match lookup((high % 16) * 16 + low) {
-                Some(kind) => kind.name(),
-                None => "-",
-            };
+            let name = lookup((high % 16) * 16 + low).map_or("-", |kind| kind.name());
             write!(f, " {name}")?;
         }
         Ok(())
@@ -32,7 +29,6 @@ struct Hex<'a>(&'a [u8]);
 impl fmt::Display for Hex<'_> {
     fn fmt<W: fmt::Write>(&self, f: &mut fmt::Formatter<W>) -> fmt::Result {
         for b in self.0 {
-            let b = *b;
             write!(f, " {b:02X}")?;
         }
         Ok(())
@@ -47,24 +43,14 @@ impl fmt::Display for Making {
     fn fmt<W: fmt::Write>(&self, f: &mut fmt::Formatter<W>) -> fmt::Result {
         let Making(kind, a, b, c, imm) = *self;
         write!(f, "make {kind} {a} {b} {c} {imm}: ")?;
-        match Record::new(kind, a, b, c, imm) {
-            Ok(record) => {
-                let mut buffer = [0xEE; 4];
-                match decode_encoded(record, &mut buffer) {
-                    Ok(again) => {
-                        let bytes = Hex(&buffer);
-                        write!(f, "{again} ={bytes}")
-                    }
-                    Err(refusal) => {
-                        let number = refusal.number();
-                        write!(f, "{number}")
-                    }
-                }
-            }
-            Err(refusal) => {
-                let number = refusal.number();
-                write!(f, "{number}")
-            }
+        let mut buffer = [0xEE; 4];
+        let made = Record::new(kind, a, b, c, imm).map_err(|refusal| refusal.number());
+        let again = made.and_then(|record| {
+            decode_encoded(record, &mut buffer).map_err(|refusal| refusal.number())
+        });
+        match again {
+            Ok(record) => write!(f, "{record} ={}", Hex(&buffer)),
+            Err(number) => write!(f, "{number}"),
         }
     }
 }
@@ -75,23 +61,17 @@ struct Decoding<'a>(&'a [u8]);
 
 impl fmt::Display for Decoding<'_> {
     fn fmt<W: fmt::Write>(&self, f: &mut fmt::Formatter<W>) -> fmt::Result {
-        let bytes = Hex(self.0);
-        write!(f, "decode{bytes}: ")?;
-        let (answer, _) = decode(self.0);
+        write!(f, "decode{}: ", Hex(self.0))?;
         let mut buffer = [0xEE; 4];
         match encode_decoded(self.0, &mut buffer) {
             Ok(count) => {
-                if let Ok(record) = answer {
+                if let Ok((record, _)) = decode(self.0) {
                     write!(f, "{record}, ")?;
                 }
                 let all = self.0.len();
-                let again = Hex(&buffer);
-                write!(f, "{count} of {all} bytes; again{again}")
+                write!(f, "{count} of {all} bytes; again{}", Hex(&buffer))
             }
-            Err(refusal) => {
-                let number = refusal.number();
-                write!(f, "{number}")
-            }
+            Err(refusal) => write!(f, "{}", refusal.number()),
         }
     }
 }
@@ -106,10 +86,8 @@ impl fmt::Display for Encoding {
         write!(f, "encode {record} into 0 to 3 bytes:")?;
         for room in 0..4usize {
             let mut buffer = [0xEE; 3];
-            let number = match record.encode(&mut buffer[0..room]) {
-                Ok(count) => count,
-                Err(refusal) => usize::from(refusal.number()),
-            };
+            let answer = record.encode(&mut buffer[..room]);
+            let number = answer.unwrap_or_else(|refusal| usize::from(refusal.number()));
             let [x, y, z] = buffer;
             write!(f, " {number} ( {x:02X} {y:02X} {z:02X} )")?;
         }

@@ -87,9 +87,8 @@ fn push_refusal(
     ensures { OnOk result (out.new.items ≡ out.old.items ++ refusal_line at refusal) }
 {
     let number = refusal.number();
-    let message = refusal.message();
     push_address(out, at)?;
-    let text = format!(in heap; "  {number} {message}\n")?;
+    let text = format!(in heap; "  {number} {refusal}\n")?;
     out.extend_from_slice(text.as_bytes())?;
     Ok(())
 }
@@ -113,9 +112,8 @@ fn push_first<'a>(
     requires { at ≤ 65536 }
     ensures { IfOk result (First at bytes.now out.old.items out.new.items) }
 {
-    let (answer, rest) = decode(bytes);
-    match answer {
-        Ok(record) => {
+    match decode(bytes) {
+        Ok((record, rest)) => {
             push_line(out, heap, at, front(bytes, rest), record)?;
             Ok(Some(rest))
         }

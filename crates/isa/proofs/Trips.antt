@@ -1,7 +1,8 @@
 -- The calls that encode and decode, by what each of the two ensures. Assumes nothing.
-use Rattle.std.proofs.Common.{◌≡◌, ℕ, suc, ◌-◌, ◌<◌, Bool, true, false, cond, leb, List, [], ◌∷◌, ◌++◌, length, get_or, take, drop, Ok, Err, Result, sym, refl, ap, ◌∙◌, arith, length-append}
+use Rattle.std.proofs.Common.{◌≡◌, ℕ, suc, ◌-◌, ◌<◌, Bool, true, false, cond, leb, List, [], ◌∷◌, ◌++◌, length, get_or, take, drop, Ok, Err, Result, sym, refl, rules, ap, ◌∙◌, arith, length-append}
 use lib.Seq.{take-append_seam}
 use Rattle.std.proofs.lemmas.Bool.{cond-true}
+use Rattle.std.specs.Result.{MatchResult, IsOk}
 use Rattle.isa.specs.declared.refusal.CodecError.TheVariants.{Decode}
 use Rattle.records.specs.declared.record.Record.{Record}
 use Rattle.records.specs.declared.refusal.DecodeError.{DecodeError}
@@ -34,12 +35,20 @@ module _ (x : Instruction) (before : List ℕ) where
   through_refused e h = no_room (leb (length (encoded x)) (length before)) (length (encoded x)) e x h
 
   -- what stands in the buffer decodes to the instruction
-  pub comes_back : Sound x → (n : ℕ) (after : List ℕ) (o : Result Instruction DecodeError) (rest : List ℕ) → laid_answer (encoded x) before ≡ Ok n → after ≡ laid_over (encoded x) before → gives o rest ≡ decoded after → o ≡ Ok x
-  comes_back s n after o rest e l d =
+  pub comes_back : Sound x → (n : ℕ) (after : List ℕ) → laid_answer (encoded x) before ≡ Ok n → after ≡ laid_over (encoded x) before → decoded after ≡ gives (Ok x) (drop (length (encoded x)) before)
+  comes_back s n after e l =
       let bs = encoded x in
       let fits = room (leb (length bs) (length before)) (length bs) n e in
       let stands : after ≡ bs ++ drop (length bs) before = l ∙ cond-true (leb (length bs) (length before)) (bs ++ drop (length bs) before) before fits in
-      ap (λ (v : Decoded). v.answer) (d ∙ ap decoded stands ∙ undoes x s (drop (length bs) before))
+      ap decoded stands ∙ undoes x s (drop (length bs) before)
+
+-- a decoding of bytes that hold an instruction is not refused
+pub not_refused : {X : Type 0} (holds : X → Type 0) (s : List ℕ) (x : Instruction) (rest : List ℕ) → decoded s ≡ gives (Ok x) rest → (r : Result X DecodeError) → MatchResult r holds (λ e. decoded s ≡ gives (Err e) s) → IsOk r
+not_refused holds s x rest d (Ok p) h = search rules
+not_refused holds s x rest d (Err e) h =
+    let never : Err e ≡ Ok x = ap (λ (v : Decoded). v.answer) (sym h ∙ d) in
+    let z : ◌≡◌ {A = ℕ} 0 1 = cc in
+    absurd (omega arith)
 
 -- the elements of a byte slice are bytes
 pub bytes_from : (s : List ℕ) → ((i : ℕ) → get_or s i 0 < 256) → Bytes s

@@ -9,17 +9,15 @@ use crate::refusal::CodecError;
 use records::{EncodeError, Record, decode};
 
 // Encodes a record at the start of a buffer and decodes what then stands there: the record comes back.
+#[tactic(auto, using(crate::proofs::Round::undoes))]
 pub fn decode_encoded(record: Record, buffer: &mut [u8]) -> Result<Record, EncodeError>
     ensures answer { outcome result ≡ through (meaning «record») buffer.old }
     ensures after { buffer.new ≡ laid_over (encoded (meaning «record»)) buffer.old }
     ensures law { DecodingUndoesEncoding }
 {
     record.encode(buffer)?;
-    let (answer, _) = decode(buffer);
-    match answer {
-        Ok(again) => Ok(again),
-        Err(_) => unreachable(),
-    }
+    let (again, _) = decode(buffer).unwrap();
+    Ok(again)
 }
 
 // Decodes the first instruction of a byte string and encodes it at the start of a buffer: the same bytes come back. Says how many.
@@ -28,7 +26,6 @@ pub fn encode_decoded(bytes: &[u8], buffer: &mut [u8]) -> Result<usize, CodecErr
     ensures after { buffer.new ≡ copied_over (decoded bytes.now).answer bytes.now buffer.old }
     ensures law { EncodingUndoesDecoding }
 {
-    let (answer, _) = decode(bytes);
-    let record = answer?;
+    let (record, _) = decode(bytes)?;
     Ok(record.encode(buffer)?)
 }

@@ -1,6 +1,8 @@
 // The refusals. specs/Refusals.antt has the number of each.
-ghost use Rattle.std.specs.Prelude.{◌≡◌};
+ghost use Rattle.std.specs.Prelude.{◌≡◌, Some};
 ghost use Rattle.records.specs.Refusals.{record_number, decode_number, decode_message, encode_number};
+
+use std::fmt;
 
 // Why no record is made.
 #[derive(Clone, Copy, PartialEq, Eq, Debug)]
@@ -50,16 +52,18 @@ impl DecodeError {
             DecodeError::Undefined => 23,
         }
     }
+}
 
-    // What it means, in words.
-    pub fn message(self) -> &'static str
-        ensures { result.now ≡ decode_message self }
-    {
-        match self {
+// What it means, in words.
+impl fmt::Display for DecodeError {
+    ghost output = { λ e. Some (decode_message e) };
+
+    fn fmt<W: fmt::Write>(&self, f: &mut fmt::Formatter<W>) -> fmt::Result {
+        f.write_str(match self {
             DecodeError::Empty => "no instruction",
             DecodeError::CutShort => "instruction cut short",
             DecodeError::Undefined => "undefined instruction",
-        }
+        })
     }
 }
 

@@ -1,5 +1,5 @@
 // Decoding and encoding.
-ghost use Rattle.std.specs.Prelude.{◌≡◌};
+ghost use Rattle.std.specs.Prelude.{◌≡◌, Ok, Err, MatchResult};
 ghost use Rattle.std.specs.Option.{option_map};
 ghost use Rattle.records.specs.Codec.{held, held_in, gives, decoded, encoded, laid_answer, laid_over};
 ghost use Rattle.records.specs.Images.{encoding, image_bytes};
@@ -31,17 +31,14 @@ impl Image {
     }
 }
 
-// The first instruction of a byte string and the bytes after it; with a refusal, the whole string.
-pub fn decode(bytes: &[u8]) -> (Result<Record, DecodeError>, &[u8])
-    ensures { gives (outcome result.0) result.1.now ≡ decoded bytes.now }
+// The first instruction of a byte string, and the bytes after it.
+#[tactic(auto, unfolding(crate::specs::Codec::decoded))]
+pub fn decode(bytes: &[u8]) -> Result<(Record, &[u8]), DecodeError>
+    ensures { MatchResult result (λ p. decoded bytes.now ≡ gives (Ok (meaning p.0)) p.1.now) (λ e. decoded bytes.now ≡ gives (Err e) bytes.now) }
 {
-    match split(bytes) {
-        Ok((image, rest)) => match image.record() {
-            Some(record) => (Ok(record), rest),
-            None => (Err(DecodeError::Undefined), bytes),
-        },
-        Err(refusal) => (Err(refusal), bytes),
-    }
+    let (image, rest) = split(bytes)?;
+    let record = image.record().ok_or(DecodeError::Undefined)?;
+    Ok((record, rest))
 }
 
 impl Record {

@@ -16,20 +16,6 @@ pub fn nibbles(low: u8, high: u8) -> u8
     high % 16 * 16 + low % 16
 }
 
-// The first byte of a code of six bits, with two bits above it.
-pub fn above_six(above: u8, code: u8) -> u8
-    ensures { result ≡ above % 4 * 64 + code % 64 }
-{
-    above % 4 * 64 + code % 64
-}
-
-// The first byte of a code of five bits, with three bits above it.
-pub fn above_five(above: u8, code: u8) -> u8
-    ensures { result ≡ above % 8 * 32 + code % 32 }
-{
-    above % 8 * 32 + code % 32
-}
-
 pub fn low_byte(bits: u16) -> u8
     ensures { result ≡ bits % 256 }
 {
@@ -38,7 +24,8 @@ pub fn low_byte(bits: u16) -> u8
 
 // The number that raw bits stand for in two's complement, where half is the weight of the sign.
 fn sign_extend(bits: u16, half: u16) -> i16
-    requires { (bits < half + half) × (half < 16384) }
+    requires held { bits < half + half }
+    requires narrow { half < 16384 }
     ensures { result ≡ signed half bits }
 {
     if bits < half {

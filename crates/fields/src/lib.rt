@@ -4,7 +4,5 @@
 mod bits;
 mod register;
 
-pub use bits::{
-    above_five, above_six, eleven_bits, even_offset, is_long, low_byte, nibbles, six_bits, ten_bits,
-};
-pub use register::RegisterNumber;
+pub use bits::{eleven_bits, even_offset, is_long, low_byte, nibbles, six_bits, ten_bits};
+pub use register::{NoSuchRegister, RegisterNumber};

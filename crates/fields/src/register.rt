@@ -1,5 +1,5 @@
 // The number of one of the sixteen registers.
-ghost use Rattle.std.specs.Prelude.{◌≡◌, ◌/◌, ◌%◌, ◌<◌, ◌≤◌, Some, MatchOption};
+ghost use Rattle.std.specs.Prelude.{◌≡◌, ◌/◌, ◌%◌, ◌<◌, ◌≤◌, Some, MatchResult};
 ghost use Rattle.fields.specs.Texts.{register_text};
 
 use std::fmt;
@@ -10,17 +10,25 @@ pub struct RegisterNumber {
     ghost small: { number < 16 },
 }
 
-impl RegisterNumber {
-    // The register with a number, if it is at most 15.
-    pub fn new(number: u8) -> Option<RegisterNumber>
-        ensures { MatchOption result (16 ≤ number) (λ x. x.number ≡ number) }
-    {
-        if number > 15 {
-            return None;
-        }
-        Some(RegisterNumber { number })
-    }
+// A number that no register has.
+#[derive(Clone, Copy, PartialEq, Eq, Debug)]
+pub struct NoSuchRegister;
 
+// The register with a number, if it is at most 15.
+impl TryFrom<u8> for RegisterNumber {
+    type Error = NoSuchRegister;
+
+    ghost try_from_gives = { λ n r. MatchResult r (λ x. x.number ≡ n) (λ _. 16 ≤ n) };
+
+    fn try_from(number: u8) -> Result<RegisterNumber, NoSuchRegister> {
+        if number > 15 {
+            return Err(NoSuchRegister);
+        }
+        Ok(RegisterNumber { number })
+    }
+}
+
+impl RegisterNumber {
     // 0 to 15.
     pub fn number(self) -> u8
         ensures is { result ≡ self.number }

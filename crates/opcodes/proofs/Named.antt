@@ -15,7 +15,7 @@ use Rattle.opcodes.proofs.Widths.{by_width}
 
 -- what is named has its code there
 first_passes : (p : Kind → Bool) (ks : List Kind) (k : Kind) → first p ks ≡ Some k → p k ≡ true
-first_passes p [] k e = let z : ◌≡◌ {A = ℕ} 0 1 = cc in absurd (omega arith)
+first_passes p [] k e = grind arith
 first_passes p (j ∷ ks) k e =
     elim (p j) as (λ b. p j ≡ b → cond b (Some j) (first p ks) ≡ Some k → p k ≡ true)
     [ true ↦ λ q d. let i : j ≡ k = cc in subst (λ (n : Kind). p n ≡ true) i q | false ↦ λ q d. first_passes p ks k d ] refl e
@@ -30,7 +30,7 @@ is None k = false
 is (Some j) k = eqb (number j) (number k)
 
 is_it : (o : Option Kind) (k : Kind) → is o k ≡ true → o ≡ Some k
-is_it None k e = let z : ◌≡◌ {A = ℕ} 0 1 = cc in absurd (omega arith)
+is_it None k e = grind arith
 is_it (Some j) k e = ap (λ (n : Kind). Some n) (same_number j k (eqb-true (number j) (number k) e))
 
 abbrev alone : ℕ → Kind → Bool
@@ -41,8 +41,7 @@ unfolding named
 alone_all = refl
 
 second : (a b : Bool) → (not a || b) ≡ true → a ≡ true → b ≡ true
-second true b h e = h
-second false b h e = let z : ◌≡◌ {A = ℕ} 0 1 = cc in absurd (omega arith)
+second a b h e = grind arith
 
 pub named_by : (low : ℕ) → low < 256 → (k : Kind) → low % 2 ^ code_width (format k) ≡ code k → named low ≡ Some k
 named_by low h k e =
@@ -77,10 +76,7 @@ abbrev same : Bool → Bool → Bool
 same a b = cond a b (not b)
 
 same_is : (a b : Bool) → same a b ≡ true → a ≡ b
-same_is true true e = refl
-same_is false false e = refl
-same_is true false e = sym e
-same_is false true e = e
+same_is a b e = grind arith
 
 abbrev fitting : Kind → Bool
 fitting k = ltb (code k) (2 ^ code_width (format k)) && same (eqb (code k % 2) 1) (long (format k))

@@ -5,19 +5,7 @@ use Rattle.opcodes.specs.declared.format.Format.TheVariants.{RegRegReg, RegRegSh
 use Rattle.opcodes.specs.Formats.{code_width}
 
 pub by_width : (P : ℕ → Type 0) → P 5 → P 6 → P 8 → (f : Format) → P (code_width f)
-by_width P five six eight RegRegReg = eight
-by_width P five six eight RegRegShift = eight
-by_width P five six eight RegRegImm = six
-by_width P five six eight RegLongImm = six
-by_width P five six eight Branch = six
-by_width P five six eight Memory = six
-by_width P five six eight RegReg = eight
-by_width P five six eight RegImm = six
-by_width P five six eight RegShift = eight
-by_width P five six eight Reg = eight
-by_width P five six eight Jump = five
-by_width P five six eight Stack = six
-by_width P five six eight Bare = eight
+by_width P five six eight f = grind arith
 
 -- the bits of a byte above the code
 pub above_lt : (f : Format) (low : ℕ) → low < 256 → low / 2 ^ code_width f < 2 ^ (8 - code_width f)

@@ -1,4 +1,3 @@
-pub mod Equality
 pub mod Formats
 pub mod Kinds
 pub mod Laws

@@ -1,12 +1,13 @@
 // The fifty kinds of instruction, and what each is: its number, its name as typed, its code and its format.
-ghost use Rattle.std.specs.Prelude.{◌≡◌, ◌==◌, Decides};
+ghost use Rattle.std.specs.Prelude.{◌≡◌, ◌+◌, ◌-◌, ◌*◌, ◌%◌, ◌^◌};
+ghost use Rattle.std.specs.Result.{result_ok};
+ghost use Rattle.opcodes.specs.Formats.{code_width};
 ghost use Rattle.opcodes.specs.Kinds.{number, name, code, format, kind_numbered};
-ghost use Rattle.opcodes.specs.Equality.{equal_numbers};
 
 use crate::format::Format;
 
 // In the order of their numbers.
-#[derive(Clone, Copy, Eq, Debug)]
+#[derive(Clone, Copy, PartialEq, Eq, Debug)]
 pub enum Kind {
     Add = 1,
     Sub,
@@ -114,17 +115,20 @@ const KINDS: &[Kind; 50] = &[
     Kind::Nop,
 ];
 
-impl PartialEq for Kind {
-    ghost eq = { λ x y. number x == number y };
+// A number that no kind has.
+#[derive(Clone, Copy, Debug, PartialEq, Eq)]
+pub struct UnknownKind;
 
-    ghost laws = { equal_numbers };
+// The kind with a number, if it is 1 to 50.
+impl TryFrom<u8> for Kind {
+    type Error = UnknownKind;
 
-    // Kinds are equal where they are the same kind.
-    fn eq(&self, other: &Kind) -> bool
-        ensures value { result ≡ (number self.now == number other.now) }
-        ensures same { Decides result (self.now ≡ other.now) }
-    {
-        *self as u8 == *other as u8
+    ghost try_from_gives = { λ n r. result_ok r ≡ kind_numbered n };
+
+    #[tactic(auto, unfolding(crate::specs::Kinds::kind_numbered))]
+    fn try_from(number: u8) -> Result<Kind, UnknownKind> {
+        let place = number.checked_sub(1).ok_or(UnknownKind)?;
+        KINDS.get(usize::from(place)).copied().ok_or(UnknownKind)
     }
 }
 
@@ -134,16 +138,6 @@ impl Kind {
         ensures { result ≡ number self }
     {
         self as u8
-    }
-
-    // The kind with a number, if it is 1 to 50.
-    pub fn from_number(number: u8) -> Option<Kind>
-        ensures { result ≡ kind_numbered number }
-    {
-        if number < 1 || number > 50 {
-            return None;
-        }
-        Some(KINDS[number as usize - 1])
     }
 
     // The name as it is typed, in lower case.
@@ -259,6 +253,29 @@ impl Kind {
             Kind::Lwsp => 0x14,
             Kind::Swsp => 0x1C,
             Kind::Nop => 0x00,
+        }
+    }
+
+    // The first byte: the code, and these bits above it where it leaves any.
+    #[tactic(auto, using(crate::proofs::Named::code_lt))]
+    pub fn first_byte(self, above: u8) -> u8
+        ensures { result ≡ above % 2 ^ (8 - code_width (format self)) * 2 ^ code_width (format self) + code self }
+    {
+        let code = self.code();
+        match self.format() {
+            Format::Jump => above % 8 * 32 + code,
+            Format::RegRegImm
+            | Format::RegLongImm
+            | Format::Branch
+            | Format::Memory
+            | Format::RegImm
+            | Format::Stack => above % 4 * 64 + code,
+            Format::RegRegReg
+            | Format::RegRegShift
+            | Format::RegReg
+            | Format::RegShift
+            | Format::Reg
+            | Format::Bare => code,
         }
     }
 

@@ -7,6 +7,6 @@ mod law;
 mod table;
 
 pub use format::Format;
-pub use kind::Kind;
+pub use kind::{Kind, UnknownKind};
 pub use law::table_keeps_its_rule;
 pub use table::lookup;

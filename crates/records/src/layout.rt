@@ -1,18 +1,16 @@
 // The operands that the bytes of each format hold, and the bytes that hold given operands.
-ghost use Rattle.std.specs.Prelude.{◌≡◌, ◌/◌, ◌^◌, ◌<◌, pos};
+ghost use Rattle.std.specs.Prelude.{◌≡◌, ◌/◌, ◌^◌, pos};
 ghost use Rattle.std.specs.Option.{option_map};
 ghost use Rattle.opcodes.specs.Formats.{code_width};
+ghost use Rattle.records.specs.Codec.{encoded};
 ghost use Rattle.records.specs.Images.{image_bytes};
-ghost use Rattle.records.specs.Instructions.{fields as held, values};
-ghost use Rattle.records.specs.Layouts.{read, layout, bytes_of};
+ghost use Rattle.records.specs.Instructions.{fields as held, instruction, values};
+ghost use Rattle.records.specs.Layouts.{read};
 
 use crate::image::Image;
 use crate::operands::Operands;
-use fields::{
-    RegisterNumber, above_five, above_six, eleven_bits, even_offset, low_byte, nibbles, six_bits,
-    ten_bits,
-};
-use opcodes::Format;
+use fields::{RegisterNumber, eleven_bits, even_offset, low_byte, nibbles, six_bits, ten_bits};
+use opcodes::{Format, Kind};
 
 impl Operands {
     // Three registers and no immediate.
@@ -51,7 +49,11 @@ impl Operands {
         let x = RegisterNumber::in_low_nibble(high);
         let y = RegisterNumber::in_high_nibble(high);
         match format {
-            Format::RegRegReg => Some(Operands::of_three(x, y, RegisterNumber::new(top)?)),
+            Format::RegRegReg => Some(Operands::of_three(
+                x,
+                y,
+                RegisterNumber::try_from(top).ok()?,
+            )),
             Format::RegRegShift if top < 16 => Some(Operands::of_two(x, y, i16::from(top))),
             Format::RegRegImm | Format::Memory => Some(Operands::of_two(x, y, ten_bits(low, top))),
             Format::RegLongImm if high < 16 => Some(Operands::of_one(x, ten_bits(low, top))),
@@ -67,29 +69,30 @@ impl Operands {
         }
     }
 
-    // The bytes of a code with operands.
-    pub(crate) fn write(self, format: Format, code: u8) -> Image
-        requires { code < 2 ^ code_width format }
-        ensures { image_bytes result ≡ bytes_of format code (layout format (values self)) }
+    // The bytes of an instruction of a kind with these operands.
+    #[tactic(auto, unfolding(crate::specs::Codec::encoded))]
+    pub(crate) fn write(self, kind: Kind) -> Image
+        ensures { image_bytes result ≡ encoded (instruction kind (values self)) }
     {
         let (a, b, c) = (self.a.number(), self.b.number(), self.c.number());
         let bits = self.imm.cast_unsigned();
         let top = low_byte(bits);
-        let ten = above_six(low_byte(bits / 256), code);
-        match format {
+        let code = kind.code();
+        let ten = kind.first_byte(low_byte(bits / 256));
+        match kind.format() {
             Format::RegRegReg => Image::Three(code, nibbles(a, b), c),
             Format::RegRegShift => Image::Three(code, nibbles(a, b), top),
             Format::RegRegImm | Format::Memory => Image::Three(ten, nibbles(a, b), top),
             Format::RegLongImm => Image::Three(ten, nibbles(a, 0), top),
             Format::Branch => Image::Three(ten, nibbles(b, a), top),
             Format::RegReg => Image::Two(code, nibbles(a, b)),
-            Format::RegImm => Image::Two(above_six(low_byte(bits / 16), code), nibbles(a, top)),
+            Format::RegImm => Image::Two(kind.first_byte(low_byte(bits / 16)), nibbles(a, top)),
             Format::RegShift => Image::Two(code, nibbles(a, top)),
             Format::Reg => Image::Two(code, nibbles(a, 0)),
-            Format::Jump => Image::Two(above_five(top, code), low_byte(bits / 8)),
+            Format::Jump => Image::Two(kind.first_byte(top), low_byte(bits / 8)),
             Format::Stack => {
                 Image::Two(
-                    above_six(low_byte(bits / 32), code),
+                    kind.first_byte(low_byte(bits / 32)),
                     nibbles(a, low_byte(bits / 2)),
                 )
             }

@@ -3,6 +3,7 @@
 
 mod image;
 mod layout;
+mod numbers;
 mod operands;
 mod record;
 mod refusal;

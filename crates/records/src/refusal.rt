@@ -1,44 +1,57 @@
 // The refusals. specs/Refusals.antt has the number of each.
 ghost use Rattle.std.specs.Prelude.{◌≡◌, Some};
+ghost use Rattle.records.specs.declared.refusal.RecordError.TheVariants.{UnknownKind, NoSuchRegister};
 ghost use Rattle.records.specs.Refusals.{record_number, decode_number, decode_message, encode_number};
 
+use fields::NoSuchRegister;
+use opcodes::UnknownKind;
 use std::fmt;
 
 // Why no record is made.
 #[derive(Clone, Copy, PartialEq, Eq, Debug)]
 pub enum RecordError {
-    UnknownKind,
-    NoSuchRegister,
-    UnusedField,
-    OutOfRange,
-    OddOffset,
+    UnknownKind = 24,
+    NoSuchRegister = 51,
+    UnusedField = 55,
+    OutOfRange = 53,
+    OddOffset = 54,
 }
 
 // Why bytes are not decoded.
 #[derive(Clone, Copy, PartialEq, Eq, Debug)]
 pub enum DecodeError {
-    Empty,
-    CutShort,
-    Undefined,
+    Empty = 21,
+    CutShort = 22,
+    Undefined = 23,
 }
 
 // Why a record is not encoded.
 #[derive(Clone, Copy, PartialEq, Eq, Debug)]
 pub enum EncodeError {
-    NoRoom,
+    NoRoom = 61,
+}
+
+impl From<UnknownKind> for RecordError {
+    ghost from_gives = { λ _ e. e ≡ UnknownKind };
+
+    fn from(_: UnknownKind) -> RecordError {
+        RecordError::UnknownKind
+    }
+}
+
+impl From<NoSuchRegister> for RecordError {
+    ghost from_gives = { λ _ e. e ≡ NoSuchRegister };
+
+    fn from(_: NoSuchRegister) -> RecordError {
+        RecordError::NoSuchRegister
+    }
 }
 
 impl RecordError {
     pub fn number(self) -> u8
         ensures { result ≡ record_number self }
     {
-        match self {
-            RecordError::UnknownKind => 24,
-            RecordError::NoSuchRegister => 51,
-            RecordError::UnusedField => 55,
-            RecordError::OutOfRange => 53,
-            RecordError::OddOffset => 54,
-        }
+        self as u8
     }
 }
 
@@ -46,11 +59,7 @@ impl DecodeError {
     pub fn number(self) -> u8
         ensures { result ≡ decode_number self }
     {
-        match self {
-            DecodeError::Empty => 21,
-            DecodeError::CutShort => 22,
-            DecodeError::Undefined => 23,
-        }
+        self as u8
     }
 }
 
@@ -71,8 +80,6 @@ impl EncodeError {
     pub fn number(self) -> u8
         ensures { result ≡ encode_number self }
     {
-        match self {
-            EncodeError::NoRoom => 61,
-        }
+        self as u8
     }
 }

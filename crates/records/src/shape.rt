@@ -1,28 +1,54 @@
 // What a record of each format may hold.
 ghost use Rattle.std.specs.Prelude.{◌≡◌};
-ghost use Rattle.records.specs.Shapes.{shape, entry, unused_registers_zero, unused_immediate_zero, unused_zero, in_range, even_enough};
+ghost use Rattle.records.specs.Shapes.{all, even_ones, entry, shape, unused_registers_zero, unused_zero, in_range, even_enough};
 
+use crate::numbers::Numbers;
 use opcodes::Format;
 
-// How many of the registers a, b, c there are, the least and the greatest immediate (0 and 0 where there is none), and whether it
-// has to be even.
+// The least and the greatest immediate, and whether it has to be even.
 #[derive(Clone, Copy)]
-pub(crate) struct Shape {
-    registers: u8,
+struct Bounds {
     lowest: i16,
     highest: i16,
     even: bool,
 }
 
+impl Bounds {
+    const fn all(lowest: i16, highest: i16) -> Bounds
+        ensures { result ≡ all lowest highest }
+    {
+        Bounds {
+            lowest,
+            highest,
+            even: false,
+        }
+    }
+
+    const fn even_ones(lowest: i16, highest: i16) -> Bounds
+        ensures { result ≡ even_ones lowest highest }
+    {
+        Bounds {
+            lowest,
+            highest,
+            even: true,
+        }
+    }
+}
+
+// How many of the registers a, b, c there are, and the bounds of the immediate if there is one.
+#[derive(Clone, Copy)]
+pub(crate) struct Shape {
+    registers: u8,
+    immediate: Option<Bounds>,
+}
+
 impl Shape {
-    const fn new(registers: u8, lowest: i16, highest: i16, even: bool) -> Shape
-        ensures { result ≡ entry registers lowest highest even }
+    const fn new(registers: u8, immediate: Option<Bounds>) -> Shape
+        ensures { result ≡ entry registers immediate }
     {
         Shape {
             registers,
-            lowest,
-            highest,
-            even,
+            immediate,
         }
     }
 
@@ -30,55 +56,55 @@ impl Shape {
         ensures { result ≡ shape format }
     {
         match format {
-            Format::RegRegReg => Shape::new(3, 0, 0, false),
-            Format::RegRegShift => Shape::new(2, 0, 15, false),
-            Format::RegRegImm => Shape::new(2, -512, 511, false),
-            Format::RegLongImm => Shape::new(1, -512, 511, false),
-            Format::Branch => Shape::new(2, -512, 511, false),
-            Format::Memory => Shape::new(2, -512, 511, false),
-            Format::RegReg => Shape::new(2, 0, 0, false),
-            Format::RegImm => Shape::new(1, -32, 31, false),
-            Format::RegShift => Shape::new(1, 0, 15, false),
-            Format::Reg => Shape::new(1, 0, 0, false),
-            Format::Jump => Shape::new(0, -1024, 1023, false),
-            Format::Stack => Shape::new(1, 0, 126, true),
-            Format::Bare => Shape::new(0, 0, 0, false),
+            Format::RegRegReg => Shape::new(3, None),
+            Format::RegRegShift => Shape::new(2, Some(Bounds::all(0, 15))),
+            Format::RegRegImm => Shape::new(2, Some(Bounds::all(-512, 511))),
+            Format::RegLongImm => Shape::new(1, Some(Bounds::all(-512, 511))),
+            Format::Branch => Shape::new(2, Some(Bounds::all(-512, 511))),
+            Format::Memory => Shape::new(2, Some(Bounds::all(-512, 511))),
+            Format::RegReg => Shape::new(2, None),
+            Format::RegImm => Shape::new(1, Some(Bounds::all(-32, 31))),
+            Format::RegShift => Shape::new(1, Some(Bounds::all(0, 15))),
+            Format::Reg => Shape::new(1, None),
+            Format::Jump => Shape::new(0, Some(Bounds::all(-1024, 1023))),
+            Format::Stack => Shape::new(1, Some(Bounds::even_ones(0, 126))),
+            Format::Bare => Shape::new(0, None),
         }
     }
 
     // Whether each register that the format does not use is zero.
-    fn unused_registers_zero(self, a: u8, b: u8, c: u8) -> bool
-        ensures { result ≡ unused_registers_zero self a b c }
+    fn unused_registers_zero(self, numbers: Numbers) -> bool
+        ensures { result ≡ unused_registers_zero self numbers.a numbers.b numbers.c }
     {
-        (self.registers > 0 || a == 0)
-            && (self.registers > 1 || b == 0)
-            && (self.registers > 2 || c == 0)
-    }
-
-    // Whether the immediate is zero if the format does not use it.
-    fn unused_immediate_zero(self, imm: i32) -> bool
-        ensures { result ≡ unused_immediate_zero self imm }
-    {
-        self.highest > 0 || imm == 0
+        (self.registers > 0 || numbers.a == 0)
+            && (self.registers > 1 || numbers.b == 0)
+            && (self.registers > 2 || numbers.c == 0)
     }
 
     // Whether each field that the format does not use is zero.
-    pub(crate) fn unused_zero(self, a: u8, b: u8, c: u8, imm: i32) -> bool
-        ensures { result ≡ unused_zero self a b c imm }
+    pub(crate) fn unused_zero(self, numbers: Numbers) -> bool
+        ensures { result ≡ unused_zero self numbers.a numbers.b numbers.c numbers.imm }
     {
-        self.unused_registers_zero(a, b, c) && self.unused_immediate_zero(imm)
+        self.unused_registers_zero(numbers) && (self.immediate.is_some() || numbers.imm == 0)
     }
 
+    // Whether an immediate is within its bounds.
     pub(crate) fn in_range(self, imm: i32) -> bool
         ensures { result ≡ in_range self imm }
     {
-        i32::from(self.lowest) <= imm && imm <= i32::from(self.highest)
+        match self.immediate {
+            Some(bounds) => i32::from(bounds.lowest) <= imm && imm <= i32::from(bounds.highest),
+            None => imm == 0,
+        }
     }
 
     // Whether an immediate that has to be even is.
     pub(crate) fn even_enough(self, imm: i32) -> bool
         ensures { result ≡ even_enough self imm }
     {
-        !self.even || imm % 2 == 0
+        match self.immediate {
+            Some(bounds) => !bounds.even || imm % 2 == 0,
+            None => true,
+        }
     }
 }

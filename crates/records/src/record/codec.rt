@@ -41,36 +41,25 @@ pub fn decode(bytes: &[u8]) -> Result<(Record, &[u8]), DecodeError>
     Ok((record, rest))
 }
 
-impl Record {
-    fn image(self) -> Image
-        ensures { image_bytes result ≡ encoded (meaning self) }
-    {
-        self.operands.write(self.kind.format(), self.kind.code())
-    }
+// Lays bytes at the start of a buffer, and says how many.
+fn lay<const N: usize>(bytes: [u8; N], buffer: &mut [u8]) -> Result<usize, EncodeError>
+    ensures answer { result ≡ laid_answer bytes.entry buffer.old }
+    ensures after { buffer.new ≡ laid_over bytes.entry buffer.old }
+{
+    let front = buffer.first_chunk_mut().ok_or(EncodeError::NoRoom)?;
+    *front = bytes;
+    Ok(N)
+}
 
+impl Record {
     // Lays the two or three bytes at the start of a buffer, and says how many.
     pub fn encode(self, buffer: &mut [u8]) -> Result<usize, EncodeError>
         ensures answer { result ≡ laid_answer (encoded (meaning self)) buffer.old }
         ensures after { buffer.new ≡ laid_over (encoded (meaning self)) buffer.old }
     {
-        match self.image() {
-            Image::Two(low, high) => {
-                if buffer.len() < 2 {
-                    return Err(EncodeError::NoRoom);
-                }
-                buffer[0] = low;
-                buffer[1] = high;
-                Ok(2)
-            }
-            Image::Three(low, high, top) => {
-                if buffer.len() < 3 {
-                    return Err(EncodeError::NoRoom);
-                }
-                buffer[0] = low;
-                buffer[1] = high;
-                buffer[2] = top;
-                Ok(3)
-            }
+        match self.operands.write(self.kind) {
+            Image::Two(low, high) => lay([low, high], buffer),
+            Image::Three(low, high, top) => lay([low, high, top], buffer),
         }
     }
 }

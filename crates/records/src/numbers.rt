@@ -1,0 +1,8 @@
+// The numbers that a record is made of, besides its kind.
+#[derive(Clone, Copy)]
+pub(crate) struct Numbers {
+    pub(crate) a: u8,
+    pub(crate) b: u8,
+    pub(crate) c: u8,
+    pub(crate) imm: i32,
+}

@@ -2,7 +2,6 @@
 use Rattle.std.proofs.Common.{◌≡◌, ℕ, ◌+◌, ◌*◌, ◌/◌, ◌%◌, ◌^◌, ◌<◌, Bool, true, false, eqb, List, [], ◌∷◌, ◌++◌, get_or, Some, None, Ok, Err, Option, sym, refl, ap, ◌∙◌, subst, arith}
 use Rattle.std.proofs.lemmas.Bool.{cond-true, cond-false}
 use Rattle.opcodes.specs.declared.format.Format.{Format}
-use Rattle.opcodes.specs.declared.format.Format.TheVariants.{RegRegReg, RegRegShift, RegRegImm, RegLongImm, Branch, Memory, RegReg, RegImm, RegShift, Reg, Jump, Stack, Bare}
 use Rattle.opcodes.specs.declared.kind.Kind.{Kind}
 use Rattle.records.specs.declared.refusal.DecodeError.TheVariants.{CutShort}
 use Rattle.records.specs.Codec.{two, three, cut, with_fields, of_kind, held, gives, answered, decoded_from, decoded, encoded}
@@ -38,19 +37,7 @@ pub record Followed (f : Format) (x : Fields) : Type 0 where
   none : long f ≡ false → get_or (layout f x).rest 1 0 ≡ 0
 
 followed : (f : Format) (x : Fields) → Followed f x
-followed RegRegReg x = record { rest = refl; none = λ e. let z : ◌≡◌ {A = ℕ} 0 1 = cc in absurd (omega arith) }
-followed RegRegShift x = record { rest = refl; none = λ e. let z : ◌≡◌ {A = ℕ} 0 1 = cc in absurd (omega arith) }
-followed RegRegImm x = record { rest = refl; none = λ e. let z : ◌≡◌ {A = ℕ} 0 1 = cc in absurd (omega arith) }
-followed RegLongImm x = record { rest = refl; none = λ e. let z : ◌≡◌ {A = ℕ} 0 1 = cc in absurd (omega arith) }
-followed Branch x = record { rest = refl; none = λ e. let z : ◌≡◌ {A = ℕ} 0 1 = cc in absurd (omega arith) }
-followed Memory x = record { rest = refl; none = λ e. let z : ◌≡◌ {A = ℕ} 0 1 = cc in absurd (omega arith) }
-followed RegReg x = record { rest = refl; none = λ _. refl }
-followed RegImm x = record { rest = refl; none = λ _. refl }
-followed RegShift x = record { rest = refl; none = λ _. refl }
-followed Reg x = record { rest = refl; none = λ _. refl }
-followed Jump x = record { rest = refl; none = λ _. refl }
-followed Stack x = record { rest = refl; none = λ _. refl }
-followed Bare x = record { rest = refl; none = λ _. refl }
+followed f x = record { rest = grind arith; none = grind arith }
 
 pub undoes : DecodingUndoesEncoding
 unfolding encoded
@@ -75,10 +62,10 @@ undoes x s rest =
 held_parts : (low h t : ℕ) (x : Instruction) (P : Instruction → Type 0) → held low h t ≡ Some x → ((k : Kind) (y : Fields) → named low ≡ Some k → read (format k) (low / 2 ^ code_width (format k)) h t ≡ Some y → P (instruction k y)) → P x
 held_parts low h t x P e go =
     elim (named low) as (λ o. named low ≡ o → of_kind o low h t ≡ Some x → P x) [
-      | None ↦ λ n d. let z : ◌≡◌ {A = ℕ} 0 1 = cc in absurd (omega arith)
+      | None ↦ λ n d. absurd cc
       | Some k ↦ λ n d.
           elim (read (format k) (low / 2 ^ code_width (format k)) h t) as (λ r. read (format k) (low / 2 ^ code_width (format k)) h t ≡ r → with_fields k r ≡ Some x → P x) [
-            | None ↦ λ r c. let z : ◌≡◌ {A = ℕ} 0 1 = cc in absurd (omega arith)
+            | None ↦ λ r c. absurd cc
             | Some y ↦ λ r c. let q : instruction k y ≡ x = cc in subst P q (go k y n r)
           ] refl d
     ] refl e

@@ -21,10 +21,10 @@ sound r = record { a = r.operands.a.small; b = r.operands.b.small; c = r.operand
 -- an encoding that was laid had room
 room : (b : Bool) (n m : ℕ) → cond b (Ok n) (Err NoRoom) ≡ Ok m → b ≡ true
 room true n m e = refl
-room false n m e = let z : ◌≡◌ {A = ℕ} 0 1 = cc in absurd (omega arith)
+room false n m e = absurd cc
 
 no_room : (b : Bool) (n : ℕ) (e : EncodeError) (x : Instruction) → cond b (Ok n) (Err NoRoom) ≡ Err e → Err e ≡ cond b (Ok x) (Err NoRoom)
-no_room true n e x h = let z : ◌≡◌ {A = ℕ} 0 1 = cc in absurd (omega arith)
+no_room true n e x h = absurd cc
 no_room false n e x h = let d : NoRoom ≡ e = cc in ap (λ (v : EncodeError). Err v) (sym d)
 
 module _ (x : Instruction) (before : List ℕ) where
@@ -47,8 +47,7 @@ pub not_refused : {X : Type 0} (holds : X → Type 0) (s : List ℕ) (x : Instru
 not_refused holds s x rest d (Ok p) h = search rules
 not_refused holds s x rest d (Err e) h =
     let never : Err e ≡ Ok x = ap (λ (v : Decoded). v.answer) (sym h ∙ d) in
-    let z : ◌≡◌ {A = ℕ} 0 1 = cc in
-    absurd (omega arith)
+    absurd cc
 
 -- the elements of a byte slice are bytes
 pub bytes_from : (s : List ℕ) → ((i : ℕ) → get_or s i 0 < 256) → Bytes s

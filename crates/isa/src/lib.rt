@@ -6,8 +6,8 @@ mod refusal;
 mod round_trip;
 
 pub use examples::decoding_examples_hold;
-pub use fields::RegisterNumber;
-pub use opcodes::{Format, Kind, lookup};
+pub use fields::{NoSuchRegister, RegisterNumber};
+pub use opcodes::{Format, Kind, UnknownKind, lookup};
 pub use records::{DecodeError, EncodeError, Record, RecordError, decode};
 pub use refusal::CodecError;
 pub use round_trip::{decode_encoded, encode_decoded};
@@ -36,55 +36,53 @@ mod tests {
 
     #[test]
     fn the_table_names_130_first_bytes(rt: HostRuntime) {
-        let mut named = 0u16;
-        for low in 0..=255u8 {
-            if lookup(low).is_some() {
-                named = named.saturating_add(1);
-            }
-        }
+        let named = (0..=255u8).filter(|low| lookup(*low).is_some()).count();
         assert_eq!(rt; named, 130);
     }
 
-    // What stands in a buffer after a string was decoded and encoded into it: its first bytes, or nothing new.
-    fn laid(bytes: [u8; 3], before: [u8; 3], count: usize) -> bool {
-        for (i, b) in bytes.iter().enumerate() {
-            let after = before[i];
-            if i < count && after != *b || i >= count && after != !*b {
-                return false;
+    // Whether a buffer has the first bytes of a string, and is the rest of it turned, as it was before.
+    fn laid(bytes: [u8; 3], buffer: [u8; 3], count: usize) -> bool {
+        bytes.iter().zip(buffer.iter()).enumerate().all(|(i, (byte, after))| *after
+            == if i < count { *byte } else { !*byte })
+    }
+
+    // How many bytes of a string are decoded and encoded again, if any, and whether the buffer is as it should be.
+    fn copied(rt: &impl Abort, bytes: [u8; 3]) -> Option<usize> {
+        let mut buffer = bytes.map(|byte| !byte);
+        let copied = match encode_decoded(&bytes, &mut buffer) {
+            Ok(count) => Some(count),
+            Err(refusal) => {
+                assert!(rt; refusal.number() == 23);
+                None
             }
-        }
-        true
+        };
+        assert!(rt; laid(bytes, buffer, copied.unwrap_or(0)));
+        copied
     }
 
     // How many first and second bytes begin a defined instruction, with a third byte given; each is encoded as it was.
-    fn defined(rt: &impl Abort, top: u8) -> u32 {
-        let mut count = 0u32;
-        for low in 0..=255u8 {
-            for high in 0..=255u8 {
-                let bytes = [low, high, top];
-                let mut buffer = [!low, !high, !top];
-                let laid_bytes = match encode_decoded(&bytes, &mut buffer) {
-                    Ok(n) => {
-                        count = count.saturating_add(1);
-                        n
-                    }
-                    Err(refusal) => {
-                        assert!(rt; refusal.number() == 23);
-                        0
-                    }
-                };
-                assert!(rt; laid(bytes, buffer, laid_bytes));
-            }
-        }
-        count
+    fn defined(rt: &impl Abort, top: u8) -> usize {
+        (0..=255u8)
+            .map(|low| {
+                (0..=255u8)
+                    .filter(|high| copied(rt, [low, *high, top]).is_some())
+                    .count()
+            })
+            .fold(0, |sum: usize, count| sum.saturating_add(count))
     }
 
     // Kinds times spare bits of the first byte times second bytes, format by format.
-    const TWO_BYTES: u32 = 9 * 256 + 4 * 4 * 256 + 3 * 256 + 2 * 16 + 2 * 8 * 256 + 2 * 4 * 256 + 1;
+    const TWO_BYTES: usize = 9 * 256
+        + 4 * 4 * 256
+        + 3 * 256
+        + 2 * 16
+        + 2 * 8 * 256
+        + 2 * 4 * 256
+        + 1;
 
-    const THREE_BYTES: u32 = 4 * 4 * 256 + 4 * 16 + 6 * 4 * 256 + 5 * 4 * 256;
+    const THREE_BYTES: usize = 4 * 4 * 256 + 4 * 16 + 6 * 4 * 256 + 5 * 4 * 256;
 
-    const SMALL_THIRD: u32 = 8 * 256 + 3 * 256;
+    const SMALL_THIRD: usize = 8 * 256 + 3 * 256;
 
     #[test]
     fn every_first_and_second_byte_is_tried(rt: HostRuntime) {

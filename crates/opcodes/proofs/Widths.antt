@@ -1,7 +1,6 @@
 -- What holds of codes of five, six and eight bits holds of every format's. Assumes nothing.
 use Rattle.std.proofs.Common.{ℕ, ◌-◌, ◌/◌, ◌^◌, ◌<◌, arith}
 use Rattle.opcodes.specs.declared.format.Format.{Format}
-use Rattle.opcodes.specs.declared.format.Format.TheVariants.{RegRegReg, RegRegShift, RegRegImm, RegLongImm, Branch, Memory, RegReg, RegImm, RegShift, Reg, Jump, Stack, Bare}
 use Rattle.opcodes.specs.Formats.{code_width}
 
 pub by_width : (P : ℕ → Type 0) → P 5 → P 6 → P 8 → (f : Format) → P (code_width f)

@@ -27,18 +27,14 @@ split_two (low ∷ high ∷ top ∷ rest) h e =
 -- what an accepted string says of its parts
 answered_ok : (s : List ℕ) (o : Option Instruction) (r : List ℕ) (x : Instruction) (rest : List ℕ) → answered s o r ≡ gives (Ok x) rest → (o ≡ Some x) × (r ≡ rest)
 answered_ok s None r x rest e =
-    let d : Err Undefined ≡ Ok x = ap (λ (v : Decoded). v.answer) e in
-    let z : ◌≡◌ {A = ℕ} 0 1 = cc in
-    absurd (omega arith)
+    let d : Err Undefined ≡ Ok x = ap (λ (v : Decoded). v.answer) e in absurd cc
 answered_ok s (Some y) r x rest e =
     let d : Ok y ≡ Ok x = ap (λ (v : Decoded). v.answer) e in (cc, ap (λ (v : Decoded). v.rest) e)
 
 -- a refusal is no instruction
 never : (s : List ℕ) (e : DecodeError) (x : Instruction) (rest : List ℕ) → gives (Err e) s ≡ gives (Ok x) rest → ⊥
 never s e x rest h =
-    let d : Err e ≡ Ok x = ap (λ (v : Decoded). v.answer) h in
-    let z : ◌≡◌ {A = ℕ} 0 1 = cc in
-    omega arith
+    let d : Err e ≡ Ok x = ap (λ (v : Decoded). v.answer) h in absurd cc
 
 -- the bytes after the first: two of three, or one of two
 abbrev pub following : Bool → ℕ → ℕ → List ℕ
@@ -59,7 +55,7 @@ pub record Apart (s : List ℕ) (x : Instruction) (rest : List ℕ) : Type 0 whe
 apart_three : (low h t : ℕ) (r : List ℕ) (x : Instruction) (rest : List ℕ) → eqb (low % 2) 1 ≡ true → answered (low ∷ h ∷ t ∷ r) (held low h t) r ≡ gives (Ok x) rest → Apart (low ∷ h ∷ t ∷ r) x rest
 apart_three low h t r x rest e d =
     let a = answered_ok (low ∷ h ∷ t ∷ r) (held low h t) r x rest d in
-    record { low = low; high = h; top = t; long = true; told = e; none = λ p. let z : ◌≡◌ {A = ℕ} 0 1 = cc in absurd (omega arith); holds = a.0; whole = ap (λ (l : List ℕ). low ∷ h ∷ t ∷ l) (sym a.1) }
+    record { low = low; high = h; top = t; long = true; told = e; none = λ p. absurd cc; holds = a.0; whole = ap (λ (l : List ℕ). low ∷ h ∷ t ∷ l) (sym a.1) }
 
 apart_two : (low h : ℕ) (r : List ℕ) (x : Instruction) (rest : List ℕ) → eqb (low % 2) 1 ≡ false → answered (low ∷ h ∷ r) (held low h 0) r ≡ gives (Ok x) rest → Apart (low ∷ h ∷ r) x rest
 apart_two low h r x rest e d =

@@ -26,15 +26,11 @@ split_two (low ∷ high ∷ top ∷ rest) h e =
 
 -- what an accepted string says of its parts
 answered_ok : (s : List ℕ) (o : Option Instruction) (r : List ℕ) (x : Instruction) (rest : List ℕ) → answered s o r ≡ gives (Ok x) rest → (o ≡ Some x) × (r ≡ rest)
-answered_ok s None r x rest e =
-    let d : Err Undefined ≡ Ok x = ap (λ (v : Decoded). v.answer) e in absurd cc
-answered_ok s (Some y) r x rest e =
-    let d : Ok y ≡ Ok x = ap (λ (v : Decoded). v.answer) e in (cc, ap (λ (v : Decoded). v.rest) e)
+answered_ok s o r x rest e = (grind arith, grind arith)
 
 -- a refusal is no instruction
 never : (s : List ℕ) (e : DecodeError) (x : Instruction) (rest : List ℕ) → gives (Err e) s ≡ gives (Ok x) rest → ⊥
-never s e x rest h =
-    let d : Err e ≡ Ok x = ap (λ (v : Decoded). v.answer) h in absurd cc
+never s e x rest h = grind arith
 
 -- the bytes after the first: two of three, or one of two
 abbrev pub following : Bool → ℕ → ℕ → List ℕ

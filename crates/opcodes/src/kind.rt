@@ -140,7 +140,8 @@ impl Kind {
         self as u8
     }
 
-    // The name as it is typed, in lower case.
+    // The name as it is typed, in lower case. One line for each kind: a table of rows, name and code and format, was tried, and the proof of a
+    // look into it did not close, since its names lie at addresses that a proof cannot write.
     pub fn name(self) -> &'static str
         ensures { result.now ≡ name self }
     {
@@ -198,7 +199,8 @@ impl Kind {
         }
     }
 
-    // The bits of the first byte that name the kind: its low eight, six or five, as the format has it.
+    // The bits of the first byte that name the kind: its low eight, six or five, as the format has it. One line for each kind, as in the
+    // table of the rules.
     pub fn code(self) -> u8
         ensures { result ≡ code self }
     {

@@ -1,5 +1,5 @@
 // Numbers in the bits of bytes. Quotients and remainders of powers of two are shifts and masks to the machine.
-ghost use Rattle.std.specs.Prelude.{◌≡◌, ◌+◌, ◌*◌, ◌/◌, ◌%◌, ◌<◌, pos, ◌==◌};
+ghost use Rattle.std.specs.Prelude.{◌≡◌, ◌+◌, ◌*◌, ◌/◌, ◌%◌, ◌^◌, ◌<◌, pos, ◌==◌};
 ghost use Rattle.fields.specs.Bits.{signed};
 
 // Whether a first byte begins an instruction of three bytes: bit 0 tells.
@@ -9,11 +9,12 @@ pub fn is_long(low: u8) -> bool
     low % 2 == 1
 }
 
-// A byte of two halves.
-pub fn nibbles(low: u8, high: u8) -> u8
-    ensures { result ≡ high % 16 * 16 + low % 16 }
+// A byte of two parts: BITS low bits of one, and above them bits of another. BITS counts modulo 8, as in every shift of a byte.
+#[tactic(auto, using(crate::proofs::Parts::fits))]
+pub fn packed<const BITS: u32>(above: u8, below: u8) -> u8
+    ensures { result ≡ above * 2 ^ (BITS % 8) % 256 + below % 2 ^ (BITS % 8) }
 {
-    high % 16 * 16 + low % 16
+    above.wrapping_shl(BITS) + below % 1u8.wrapping_shl(BITS)
 }
 
 pub fn low_byte(bits: u16) -> u8
@@ -24,8 +25,7 @@ pub fn low_byte(bits: u16) -> u8
 
 // The number that raw bits stand for in two's complement, where half is the weight of the sign.
 fn sign_extend(bits: u16, half: u16) -> i16
-    requires held { bits < half + half }
-    requires narrow { half < 16384 }
+    requires { (bits < half + half) × (half < 16384) }
     ensures { result ≡ signed half bits }
 {
     if bits < half {
@@ -45,7 +45,7 @@ pub fn ten_bits(low: u8, top: u8) -> i16
 pub fn six_bits(low: u8, high: u8) -> i16
     ensures { result ≡ signed 32 (low / 64 * 16 + high / 16) }
 {
-    sign_extend(u16::from(nibbles(high / 16, low / 64)), 32)
+    sign_extend(u16::from(packed::<4>(low / 64, high / 16)), 32)
 }
 
 pub fn eleven_bits(low: u8, high: u8) -> i16

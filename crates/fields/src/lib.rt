@@ -4,5 +4,5 @@
 mod bits;
 mod register;
 
-pub use bits::{eleven_bits, even_offset, is_long, low_byte, nibbles, six_bits, ten_bits};
+pub use bits::{eleven_bits, even_offset, is_long, low_byte, packed, six_bits, ten_bits};
 pub use register::{NoSuchRegister, RegisterNumber};

@@ -1,7 +1,6 @@
 // The fifty kinds of instruction, and what each is: its number, its name as typed, its code and its format.
-ghost use Rattle.std.specs.Prelude.{◌≡◌, ◌+◌, ◌-◌, ◌*◌, ◌%◌, ◌^◌};
+ghost use Rattle.std.specs.Prelude.{◌≡◌};
 ghost use Rattle.std.specs.Result.{result_ok};
-ghost use Rattle.opcodes.specs.Formats.{code_width};
 ghost use Rattle.opcodes.specs.Kinds.{number, name, code, format, kind_numbered};
 
 use crate::format::Format;
@@ -255,29 +254,6 @@ impl Kind {
             Kind::Lwsp => 0x14,
             Kind::Swsp => 0x1C,
             Kind::Nop => 0x00,
-        }
-    }
-
-    // The first byte: the code, and these bits above it where it leaves any.
-    #[tactic(auto, using(crate::proofs::Named::code_lt))]
-    pub fn first_byte(self, above: u8) -> u8
-        ensures { result ≡ above % 2 ^ (8 - code_width (format self)) * 2 ^ code_width (format self) + code self }
-    {
-        let code = self.code();
-        match self.format() {
-            Format::Jump => above % 8 * 32 + code,
-            Format::RegRegImm
-            | Format::RegLongImm
-            | Format::Branch
-            | Format::Memory
-            | Format::RegImm
-            | Format::Stack => above % 4 * 64 + code,
-            Format::RegRegReg
-            | Format::RegRegShift
-            | Format::RegReg
-            | Format::RegShift
-            | Format::Reg
-            | Format::Bare => code,
         }
     }
 

@@ -1,10 +1,10 @@
 -- The first bytes of a slice, as slice patterns bind them, and what decoding makes of them. Assumes nothing.
-use Rattle.std.proofs.Common.{◌≡◌, ℕ, suc, ◌+◌, ◌-◌, ◌%◌, ◌<◌, ◌≤◌, Bool, true, false, cond, eqb, List, [], ◌∷◌, ◌++◌, length, get_or, take, drop, Some, None, Ok, Err, Option, sym, refl, ap, ◌∙◌, arith, length-append}
+use Rattle.std.proofs.Common.{◌≡◌, ℕ, suc, ◌+◌, ◌-◌, ◌%◌, ◌<◌, ◌≤◌, Bool, true, false, cond, eqb, List, [], ◌∷◌, ◌++◌, length, get_or, take, drop, Some, Ok, Err, Option, sym, refl, ap, ◌∙◌, arith, length-append}
 use Rattle.std.proofs.lemmas.List.{take_all}
 use Rattle.std.proofs.lemmas.Bool.{cond-true, cond-false}
 use Rattle.records.specs.declared.refusal.DecodeError.{DecodeError}
-use Rattle.records.specs.declared.refusal.DecodeError.TheVariants.{Empty, CutShort, Undefined}
-use Rattle.records.specs.Codec.{two, three, split, cut, held, Decoded, gives, answered, decoded_from, decoded}
+use Rattle.records.specs.declared.refusal.DecodeError.TheVariants.{Empty, CutShort}
+use Rattle.records.specs.Codec.{two, three, split, cut, held, gives, answered, decoded_from, decoded}
 use Rattle.records.specs.Instructions.{Instruction}
 
 whole : (xs : List ℕ) (n k : ℕ) → n ≡ length xs + k → xs ≡ take (n - k) xs

@@ -9,7 +9,7 @@ ghost use Rattle.records.specs.Layouts.{read};
 
 use crate::image::Image;
 use crate::operands::Operands;
-use fields::{RegisterNumber, eleven_bits, even_offset, low_byte, nibbles, six_bits, ten_bits};
+use fields::{RegisterNumber, eleven_bits, even_offset, low_byte, packed, six_bits, ten_bits};
 use opcodes::{Format, Kind};
 
 impl Operands {
@@ -70,7 +70,7 @@ impl Operands {
     }
 
     // The bytes of an instruction of a kind with these operands.
-    #[tactic(auto, unfolding(crate::specs::Codec::encoded))]
+    #[tactic(auto, using(opcodes::proofs::Named::code_lt), unfolding(crate::specs::Codec::encoded))]
     pub(crate) fn write(self, kind: Kind) -> Image
         ensures { image_bytes result ≡ encoded (instruction kind (values self)) }
     {
@@ -78,22 +78,25 @@ impl Operands {
         let bits = self.imm.cast_unsigned();
         let top = low_byte(bits);
         let code = kind.code();
-        let ten = kind.first_byte(low_byte(bits / 256));
+        let ten = packed::<6>(low_byte(bits / 256), code);
         match kind.format() {
-            Format::RegRegReg => Image::Three(code, nibbles(a, b), c),
-            Format::RegRegShift => Image::Three(code, nibbles(a, b), top),
-            Format::RegRegImm | Format::Memory => Image::Three(ten, nibbles(a, b), top),
-            Format::RegLongImm => Image::Three(ten, nibbles(a, 0), top),
-            Format::Branch => Image::Three(ten, nibbles(b, a), top),
-            Format::RegReg => Image::Two(code, nibbles(a, b)),
-            Format::RegImm => Image::Two(kind.first_byte(low_byte(bits / 16)), nibbles(a, top)),
-            Format::RegShift => Image::Two(code, nibbles(a, top)),
-            Format::Reg => Image::Two(code, nibbles(a, 0)),
-            Format::Jump => Image::Two(kind.first_byte(top), low_byte(bits / 8)),
+            Format::RegRegReg => Image::Three(code, packed::<4>(b, a), c),
+            Format::RegRegShift => Image::Three(code, packed::<4>(b, a), top),
+            Format::RegRegImm | Format::Memory => Image::Three(ten, packed::<4>(b, a), top),
+            Format::RegLongImm => Image::Three(ten, packed::<4>(0, a), top),
+            Format::Branch => Image::Three(ten, packed::<4>(a, b), top),
+            Format::RegReg => Image::Two(code, packed::<4>(b, a)),
+            Format::RegImm => Image::Two(
+                packed::<6>(low_byte(bits / 16), code),
+                packed::<4>(top, a),
+            ),
+            Format::RegShift => Image::Two(code, packed::<4>(top, a)),
+            Format::Reg => Image::Two(code, packed::<4>(0, a)),
+            Format::Jump => Image::Two(packed::<5>(top, code), low_byte(bits / 8)),
             Format::Stack => {
                 Image::Two(
-                    kind.first_byte(low_byte(bits / 32)),
-                    nibbles(a, low_byte(bits / 2)),
+                    packed::<6>(low_byte(bits / 32), code),
+                    packed::<4>(low_byte(bits / 2), a),
                 )
             }
             Format::Bare => Image::Two(code, 0),

@@ -218,7 +218,7 @@ fn main(rt: HostRuntime) -> io::Result<()> {
         let bytes = Hex(*filter);
         println!(rt; "list{bytes}")?;
         let text = listing(rt.alloc(), *filter)?;
-        rt.stdout().write_all(&text)?;
+        rt.stdout().write_all(text.as_bytes())?;
     }
     Ok(())
 }

@@ -1,8 +1,10 @@
 // Numbers right-justified with leading blanks in columns.
 #![tactic(auto)]
 
-ghost use Rattle.std.specs.Prelude.{◌≡◌, ◌+◌, ◌≤◌, ◌++◌, length, drop, replicate, decimal};
+ghost use Rattle.std.specs.Prelude.{◌≡◌};
 ghost use Rattle.columns.specs.Columns.{justified_answer, justified, justified_at_answer, justified_at};
+
+use itoa::Buffer;
 
 // Why a number is not laid into columns.
 #[derive(Clone, Copy, PartialEq, Eq, Debug)]
@@ -13,78 +15,19 @@ pub enum ColumnsError {
     TooLong,
 }
 
-const POWERS: &[u64; 20] = &[
-    1,
-    10,
-    100,
-    1_000,
-    10_000,
-    100_000,
-    1_000_000,
-    10_000_000,
-    100_000_000,
-    1_000_000_000,
-    10_000_000_000,
-    100_000_000_000,
-    1_000_000_000_000,
-    10_000_000_000_000,
-    100_000_000_000_000,
-    1_000_000_000_000_000,
-    10_000_000_000_000_000,
-    100_000_000_000_000_000,
-    1_000_000_000_000_000_000,
-    10_000_000_000_000_000_000,
-];
-
-// How many figures a number has: the search begins at the most that there can be.
-fn figures(n: u64) -> usize
-    ensures { result ≡ length (decimal n) }
-{
-    let mut count = 20;
-    while count > 1 && n < POWERS[count - 1] {
-        count -= 1;
-    }
-    count
-}
-
-// Writes the figures of a number at the end of a field, the units first, and says where they begin.
-fn put_figures(field: &mut [u8], n: u64) -> usize
-    requires { length (decimal n) ≤ length field.old }
-    ensures begin { result + length (decimal n) ≡ length field.old }
-    ensures written { drop result field.new ≡ decimal n }
-{
-    let mut rest = n;
-    let mut at = field.len();
-    while rest >= 10 {
-        at -= 1;
-        field[at] = b'0' + (rest % 10) as u8;
-        rest /= 10;
-    }
-    at -= 1;
-    field[at] = b'0' + rest as u8;
-    at
-}
-
-// Writes blanks up to a place.
-fn put_blanks(field: &mut [u8], to: usize)
-    requires { to ≤ length field.old }
-    ensures { field.new ≡ replicate to 32 ++ drop to field.old }
-{
-    for i in 0..to {
-        field[i] = b' ';
-    }
-}
-
 // Lays a number over a whole field, right-justified; nothing is written where it does not fit.
+#[tactic(auto, unfolding(crate::specs::Columns::padded))]
 pub fn justify(field: &mut [u8], n: u64) -> Result<(), ColumnsError>
     ensures answer { result ≡ justified_answer field.old n }
     ensures after { field.new ≡ justified field.old n }
 {
-    if figures(n) > field.len() {
+    let mut buffer = Buffer::new();
+    let figures = buffer.format(n).as_bytes();
+    let Some(blanks) = field.len().checked_sub(figures.len()) else {
         return Err(ColumnsError::TooLong);
-    }
-    let at = put_figures(field, n);
-    put_blanks(field, at);
+    };
+    field[..blanks].fill(b' ');
+    field[blanks..].copy_from_slice(figures);
     Ok(())
 }
 
@@ -93,10 +36,10 @@ pub fn justify_at(out: &mut [u8], from: usize, width: usize, n: u64) -> Result<(
     ensures answer { result ≡ justified_at_answer out.old from width n }
     ensures after { out.new ≡ justified_at out.old from width n }
 {
-    if from > out.len() || width > out.len() - from {
-        return Err(ColumnsError::NoRoom);
+    match from.checked_add(width) {
+        Some(end) if end <= out.len() => justify(&mut out[from..end], n),
+        _ => Err(ColumnsError::NoRoom),
     }
-    justify(&mut out[from..from + width], n)
 }
 
 #[cfg(test)]

@@ -1,3 +1,3 @@
 pub mod Encoded
-pub mod Pushes
 pub mod Runs
+pub mod Shown

@@ -1,11 +1,10 @@
 -- The lines of a listing.
 -- Assumes nothing.
-use Rattle.std.specs.Prelude.{◌≡◌, ℕ, zero, suc, ◌+◌, ◌-◌, ◌/◌, ◌%◌, ◌≤◌, cond, List, [], ◌∷◌, ◌++◌, length, take, Some, None, Ok, Err, codes, decimal, Option, Result, ◌==◌, nat_le, nat_lt}
-use Rattle.std.specs.List.{AllByRecursion}
-use Rattle.std.specs.Borrow.{Bor}
+use Rattle.std.specs.Prelude.{◌≡◌, ℕ, zero, suc, ◌+◌, ◌-◌, ◌/◌, ◌%◌, ◌≤◌, cond, List, [], ◌∷◌, ◌++◌, length, take, Ok, Err, codes, decimal, Result, ◌==◌, nat_le, nat_lt}
+use Rattle.std.specs.List.{AllByRecursion, flat_map}
 use Rattle.columns.specs.Columns.{padded}
 use Rattle.records.specs.declared.refusal.DecodeError.{DecodeError}
-use Rattle.records.specs.Codec.{decoded, encoded, gives}
+use Rattle.records.specs.Codec.{decoded, encoded}
 use Rattle.records.specs.Instructions.{Instruction, Sound}
 use Rattle.records.specs.Refusals.{decode_number, decode_message}
 use Rattle.records.specs.Texts.{text}
@@ -13,10 +12,12 @@ use Rattle.records.specs.Texts.{text}
 abbrev pub hex_digit : ℕ → ℕ
 hex_digit n = cond (nat_lt n 10) (48 + n) (65 + (n - 10))
 
--- each byte as a blank and two hexadecimal digits
+-- a byte as a blank and two hexadecimal digits
+abbrev pub hex : ℕ → List ℕ
+hex b = 32 ∷ hex_digit (b / 16) ∷ hex_digit (b % 16) ∷ []
+
 abbrev pub hexes : List ℕ → List ℕ
-hexes [] = []
-hexes (b ∷ bs) = 32 ∷ hex_digit (b / 16) ∷ hex_digit (b % 16) ∷ hexes bs
+hexes bs = flat_map hex bs
 
 -- blanks in the place of a third byte
 abbrev pub gap : ℕ → List ℕ
@@ -34,11 +35,6 @@ count_line n = codes "instructions: " ++ (decimal n ++ codes "\n")
 
 abbrev pub too_long : List ℕ
 too_long = codes "a filter has at most 65536 bytes\n"
-
--- the first instruction of some bytes is listed, and what follows is told, or that it is refused
-abbrev pub First : ℕ → List ℕ → List ℕ → List ℕ → Option (Bor (List ℕ)) → Type 0
-First at s before after (Some rest) = (x : Instruction) × (decoded s ≡ gives (Ok x) rest.now) × (after ≡ before ++ line at (take (length s - length rest.now) s) x)
-First at s before after None = (e : DecodeError) × ((decoded s).answer ≡ Err e) × (after ≡ before ++ refusal_line at e)
 
 -- what an answer of decoding lists, given how the listing goes on with what is left
 abbrev pub by_answer : ℕ → ℕ → List ℕ → Result Instruction DecodeError → List ℕ → (ℕ → ℕ → List ℕ → List ℕ) → List ℕ

@@ -1,150 +1,110 @@
 // The listing of a filter: a line for each instruction, with its address, its bytes and its text.
 #![tactic(auto)]
 
-ghost use Rattle.std.specs.Prelude.{◌≡◌, ◌-◌, ◌<◌, ◌≤◌, ◌++◌, length, take, IfOk, OnOk};
-ghost use Rattle.columns.specs.Columns.{padded};
+ghost use Rattle.std.specs.Prelude.{◌≡◌, Some, IfOk, string_bytes};
 ghost use Rattle.records.specs.Records.{meaning};
-ghost use Rattle.disassembly.specs.Listings.{hex_digit, hexes, gap, line, refusal_line, count_line, First, listing, ShowsWhatWasEncoded};
+ghost use Rattle.disassembly.specs.Listings.{hexes, line, refusal_line, listing, ShowsWhatWasEncoded};
 
-use columns::justify;
 use isa::{DecodeError, Record, decode};
 use std::alloc::{AllocError, Global};
+use std::fmt;
 
 // The most bytes that a filter has.
 pub const LIMIT: usize = 65_536;
 
-// The upper-case hexadecimal digit of a number below 16.
-fn hex_digit(n: u8) -> u8
-    requires { n < 16 }
-    ensures { result ≡ hex_digit n }
-{
-    if n < 10 { b'0' + n } else { b'A' + (n - 10) }
-}
-
 // Each byte as a blank and two hexadecimal digits.
-fn push_hex(out: &mut Vec<u8>, bytes: &[u8]) -> Result<(), AllocError>
-    ensures { OnOk result (out.new.items ≡ out.old.items ++ hexes bytes.now) }
-{
-    for b in bytes {
-        out.extend_from_slice(&[b' ', hex_digit(*b / 16), hex_digit(*b % 16)])?;
+#[derive(Clone, Copy)]
+struct Hex<'a>(&'a [u8]);
+
+impl fmt::Display for Hex<'_> {
+    ghost output = { λ x. Some (hexes x.0.now) };
+
+    fn fmt<W: fmt::Write>(&self, f: &mut fmt::Formatter<W>) -> fmt::Result {
+        for &b in self.0 {
+            write!(f, " {b:02X}")?;
+        }
+        Ok(())
     }
-    Ok(())
-}
-
-// An address in five columns.
-fn push_address(out: &mut Vec<u8>, at: usize) -> Result<(), AllocError>
-    requires { at ≤ 65536 }
-    ensures { OnOk result (out.new.items ≡ out.old.items ++ padded 5 at) }
-{
-    let mut field = [b' '; 5];
-    let _ = justify(&mut field, at as u64);
-    out.extend_from_slice(&field)?;
-    Ok(())
-}
-
-// What stands in the place of a third byte.
-fn gap(bytes: usize) -> &'static [u8]
-    ensures { result.now ≡ gap bytes }
-{
-    if bytes == 2 { b"   " } else { b"" }
-}
-
-// The bytes before some that end a string.
-fn front<'a>(bytes: &'a [u8], rest: &[u8]) -> &'a [u8]
-    ensures { result.now ≡ take (length bytes.now - length rest.now) bytes.now }
-{
-    &bytes[0..bytes.len().saturating_sub(rest.len())]
 }
 
 // The line of an instruction.
-fn push_line(
-    out: &mut Vec<u8>,
-    heap: Global,
+#[derive(Clone, Copy)]
+struct Line<'a> {
     at: usize,
-    bytes: &[u8],
-    record: Record,
-) -> Result<(), AllocError>
-    requires { at ≤ 65536 }
-    ensures { OnOk result (out.new.items ≡ out.old.items ++ line at bytes.now (meaning «record»)) }
-{
-    push_address(out, at)?;
-    out.push(b' ')?;
-    push_hex(out, bytes)?;
-    out.extend_from_slice(gap(bytes.len()))?;
-    let text = format!(in heap; "  {record}\n")?;
-    out.extend_from_slice(text.as_bytes())?;
-    Ok(())
+    bytes: &'a [u8],
+    instruction: Record,
+}
+
+impl fmt::Display for Line<'_> {
+    ghost output = { λ x. Some (line x.at x.bytes.now (meaning x.instruction)) };
+
+    #[tactic(auto, using(crate::proofs::Shown::five_columns), unfolding(crate::specs::Listings::line))]
+    fn fmt<W: fmt::Write>(&self, f: &mut fmt::Formatter<W>) -> fmt::Result {
+        let Line {
+            at,
+            bytes,
+            instruction,
+        } = *self;
+        // blanks in the place of a third byte
+        let gap = if bytes.len() == 2 { "   " } else { "" };
+        writeln!(f, "{at:5} {}{gap}  {instruction}", Hex(bytes))
+    }
 }
 
 // The line of a refusal.
-fn push_refusal(
-    out: &mut Vec<u8>,
-    heap: Global,
+#[derive(Clone, Copy)]
+struct RefusalLine {
     at: usize,
     refusal: DecodeError,
-) -> Result<(), AllocError>
-    requires { at ≤ 65536 }
-    ensures { OnOk result (out.new.items ≡ out.old.items ++ refusal_line at refusal) }
-{
-    let number = refusal.number();
-    push_address(out, at)?;
-    let text = format!(in heap; "  {number} {refusal}\n")?;
-    out.extend_from_slice(text.as_bytes())?;
-    Ok(())
 }
 
-// The last line.
-fn push_count(out: &mut Vec<u8>, heap: Global, count: usize) -> Result<(), AllocError>
-    ensures { OnOk result (out.new.items ≡ out.old.items ++ count_line count) }
-{
-    let text = format!(in heap; "instructions: {count}\n")?;
-    out.extend_from_slice(text.as_bytes())?;
-    Ok(())
-}
+impl fmt::Display for RefusalLine {
+    ghost output = { λ x. Some (refusal_line x.at x.refusal) };
 
-// Lists the first instruction of some bytes and answers those after it; where it is refused, lists that.
-fn push_first<'a>(
-    out: &mut Vec<u8>,
-    heap: Global,
-    at: usize,
-    bytes: &'a [u8],
-) -> Result<Option<&'a [u8]>, AllocError>
-    requires { at ≤ 65536 }
-    ensures { IfOk result (First at bytes.now out.old.items out.new.items) }
-{
-    match decode(bytes) {
-        Ok((record, rest)) => {
-            push_line(out, heap, at, front(bytes, rest), record)?;
-            Ok(Some(rest))
-        }
-        Err(refusal) => {
-            push_refusal(out, heap, at, refusal)?;
-            Ok(None)
-        }
+    #[tactic(auto, using(crate::proofs::Shown::five_columns), unfolding(crate::specs::Listings::refusal_line))]
+    fn fmt<W: fmt::Write>(&self, f: &mut fmt::Formatter<W>) -> fmt::Result {
+        let RefusalLine { at, refusal } = *self;
+        writeln!(f, "{at:5}  {} {refusal}", refusal.number())
     }
 }
 
 // The listing of a filter. The law: instructions that were encoded are listed as just these instructions.
-pub fn listing(heap: Global, filter: &[u8]) -> Result<Vec<u8>, AllocError>
-    ensures bytes { IfOk result (λ v. v.items ≡ listing filter.now) }
+#[tactic(auto, using(crate::proofs::Encoded::shown), unfolding(crate::specs::Listings::listing))]
+pub fn listing(heap: Global, filter: &[u8]) -> Result<String, AllocError>
+    ensures bytes { IfOk result (λ text. string_bytes text ≡ listing filter.now) }
     ensures law { ShowsWhatWasEncoded }
 {
-    let mut out = Vec::new(heap);
     if filter.len() > LIMIT {
-        out.extend_from_slice(b"a filter has at most 65536 bytes\n")?;
-        return Ok(out);
+        return String::from_str(heap, "a filter has at most 65536 bytes\n");
     }
+    let mut out = String::new(heap);
     let mut rest = filter;
-    let mut count = 0;
-    while !rest.is_empty() {
-        let Some(after) = push_first(&mut out, heap, filter.len() - rest.len(), rest)? else {
-            push_count(&mut out, heap, count)?;
-            return Ok(out);
-        };
-        rest = after;
-        count += 1;
+    let mut count = 0usize;
+    let refusal = loop {
+        match decode(rest) {
+            Ok((instruction, after)) => {
+                let at = filter.len() - rest.len();
+                let bytes = &rest[..rest.len() - after.len()];
+                write!(
+                    out,
+                    "{}",
+                    Line {
+                        at,
+                        bytes,
+                        instruction
+                    }
+                )?;
+                rest = after;
+                count += 1;
+            }
+            Err(refusal) => break refusal,
+        }
+    };
+    if !rest.is_empty() {
+        let at = filter.len() - rest.len();
+        write!(out, "{}", RefusalLine { at, refusal })?;
     }
-    push_count(&mut out, heap, count)?;
+    writeln!(out, "instructions: {count}")?;
     Ok(out)
 }
 
@@ -168,7 +128,7 @@ mod tests {
     fn a_longer_filter_is_refused(rt: HostRuntime) -> Result<(), Fail> {
         let filter = vec![in rt.alloc(); 0u8; LIMIT + 1]?;
         let text = listing(rt.alloc(), &filter)?;
-        assert!(rt; text.as_slice() == b"a filter has at most 65536 bytes\n".as_slice());
+        assert!(rt; text.as_bytes() == b"a filter has at most 65536 bytes\n".as_slice());
         Ok(())
     }
 }

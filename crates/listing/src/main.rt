@@ -10,5 +10,5 @@ fn main(rt: HostRuntime) -> io::Result<()> {
     // one byte more than a filter has, so that a longer input shows
     rt.stdin().take(LIMIT as u64 + 1).read_to_end(&mut filter)?;
     let text = listing(rt.alloc(), &filter)?;
-    rt.stdout().write_all(&text)
+    rt.stdout().write_all(text.as_bytes())
 }

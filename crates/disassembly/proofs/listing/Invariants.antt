@@ -1,9 +1,9 @@
-use Rattle.std.proofs.Common.{◌+◌, ◌≤◌, length, vec_items}
+use Rattle.std.proofs.Common.{length, string_bytes}
 use Rattle.disassembly.proofs.Runs.{Sofar}
 use Rattle.disassembly.proofs.listing.Given as goal
 
-abbrev pub invariant-loop-rest : goal.invariant-loop-rest
-invariant-loop-rest l = (l.count + length l.rest ≤ length l.filter) × Sofar l.filter l.rest l.count (vec_items l.out)
+abbrev pub invariant-loop-instruction : goal.invariant-loop-instruction
+invariant-loop-instruction l = Sofar l.filter l.rest l.count (string_bytes l.out)
 
-abbrev pub decreases-loop-rest : goal.decreases-loop-rest
-decreases-loop-rest l = length l.rest
+abbrev pub decreases-loop-instruction : goal.decreases-loop-instruction
+decreases-loop-instruction l = length l.rest

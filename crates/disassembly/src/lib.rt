@@ -80,6 +80,7 @@ pub fn listing(heap: Global, filter: &[u8]) -> Result<String, AllocError>
     let mut out = String::new(heap);
     let mut rest = filter;
     let mut count = 0usize;
+    // A loop and not an iterator over the instructions: what ends them, a refusal or nothing more, is listed too.
     let refusal = loop {
         match decode(rest) {
             Ok((instruction, after)) => {

@@ -11,6 +11,8 @@ pub enum CodecError {
     Encode(EncodeError),
 }
 
+// Each `From` by hand: a derived one has no contract, and callers are told which case it makes.
+
 impl From<DecodeError> for CodecError {
     ghost from_gives = { λ e r. r ≡ Decode e };
 

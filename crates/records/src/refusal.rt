@@ -31,6 +31,7 @@ pub enum EncodeError {
     NoRoom = 61,
 }
 
+// Each `From` by hand: a derived one has no contract, and callers are told which case it makes.
 impl From<UnknownKind> for RecordError {
     ghost from_gives = { λ _ e. e ≡ UnknownKind };
 
@@ -47,6 +48,7 @@ impl From<NoSuchRegister> for RecordError {
     }
 }
 
+// Each refusal has its `number` by a cast of its own: a trait for the three would spare no line, and be one more name to import.
 impl RecordError {
     pub fn number(self) -> u8
         ensures { result ≡ record_number self }

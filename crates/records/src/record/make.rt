@@ -38,7 +38,8 @@ impl Numbers {
 }
 
 impl Record {
-    // A record of a kind by its number, registers a, b, c in the order of the assembler text, and an immediate.
+    // A record of a kind by its number, registers a, b, c in the order of the assembler text, and an immediate. Numbers and not their types:
+    // this call is what tests them, and its refusals have an order.
     pub fn new(kind: u8, a: u8, b: u8, c: u8, imm: i32) -> Result<Record, RecordError>
         ensures { outcome result ≡ made kind a b c imm }
     {

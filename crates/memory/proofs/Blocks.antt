@@ -1,11 +1,11 @@
 -- A block of bytes, byte by byte.
-use Rattle.std.proofs.Common.{◌≡◌, ℕ, suc, ◌+◌, ◌-◌, ◌<◌, ◌≤◌, ltb, List, ◌∷◌, length, get_or, drop, set, Some, None, Ok, Err, Option, Result, sym, refl, ap, ◌∙◌, subst, ⊎_elim, arith, length-set}
+use Rattle.std.proofs.Common.{◌≡◌, ℕ, suc, ◌+◌, ◌-◌, ◌<◌, ◌≤◌, ltb, List, ◌∷◌, length, get_or, drop, set, Some, None, Ok, Err, Option, Result, refl, ap, ◌∙◌, arith, length-set}
 use Rattle.std.proofs.lemmas.List.{at_drop_more, at_drop_all}
-use Rattle.std.proofs.lemmas.Bool.Decides.{leb_tells, nat_tests}
+use Rattle.std.proofs.lemmas.Bool.Decides.{nat_tests}
 use Rattle.memory.specs.declared.cell.Cell.{Cell}
 use Rattle.memory.specs.declared.fault.StoreFault.{StoreFault}
 use Rattle.memory.specs.declared.fault.StoreFault.TheVariants.{Outside, Protected}
-use Rattle.memory.specs.Memory.{Memory, cell, inside, holding, if_ok, write_answer, written}
+use Rattle.memory.specs.Memory.{Memory, cell, inside, holding, write_answer, written}
 use Rattle.memory.specs.Blocks.{first_failing, refused_at, all_inside, all_free, free, placed, block_answer, block_written}
 use Rattle.memory.specs.Laws.{RefusedAtLowest}
 use Rattle.memory.proofs.Failing.{first_outside, none_step, all_pass, lowest_failing}
@@ -14,22 +14,13 @@ use Rattle.memory.proofs.Failing.{first_outside, none_step, all_pass, lowest_fai
 abbrev pub Accepted : Memory → ℕ → ℕ → Type 0
 Accepted m a count = (first_failing (inside m.cells) a count ≡ None) × (first_failing (free m) a count ≡ None)
 
--- a refusal of the first question refuses the block
-refused : {X : Type 0} (fault : ℕ → StoreFault) (next : Result X StoreFault) (found : Option ℕ) (f : StoreFault) → Err f ≡ refused_at fault found (Ok (tt {0})) → Err f ≡ refused_at fault found next
-refused fault next (Some a) f e = grind arith
-refused fault next None f e = grind arith
-
 -- a first question that is not answered with a refusal found no address outside,
 pub none_found : (cells : List Cell) (a count : ℕ) (u : Unit {0}) → Ok u ≡ all_inside cells a count (Ok tt) → first_failing (inside cells) a count ≡ None
-none_found cells a count u e = by (first_failing (inside cells) a count) e
-  where
-    by : (found : Option ℕ) → Ok u ≡ refused_at Outside found (Ok tt) → found ≡ None
-    by (Some b) h = grind arith
-    by None h = refl
+none_found cells a count u e = grind arith
 
 -- and then as many cells are there
 pub room : (cells : List Cell) (a count : ℕ) → first_failing (inside cells) a count ≡ None → count ≤ length cells - a
-room cells a count e = ⊎_elim (λ fits. fits.1) (λ over. let past = first_outside (length cells) a count over.1 in absurd (grind arith)) (leb_tells count (length cells - a))
+room cells a count e = let past = first_outside cells a count in grind arith
 
 -- both in one
 pub fits : (cells : List Cell) (a count : ℕ) (u : Unit {0}) → Ok u ≡ all_inside cells a count (Ok tt) → count ≤ length cells - a
@@ -39,26 +30,23 @@ fits cells a count u e = room cells a count (none_found cells a count u e)
 module _ (m : Memory) (a count : ℕ) where
   pub answer_outside : (f : StoreFault) → Err f ≡ all_inside m.cells a count (Ok (tt {0})) → Err f ≡ block_answer m a count
   unfolding block_answer
-  answer_outside f e = refused Outside (all_free m a count (Ok tt)) (first_failing (inside m.cells) a count) f e
+  answer_outside f e = grind arith
 
   pub answer_free : first_failing (inside m.cells) a count ≡ None → (r : Result (Unit {0}) StoreFault) → r ≡ all_free m a (a + count - a) (Ok tt) → r ≡ block_answer m a count
   unfolding block_answer
   answer_free none r e =
       let counted : a + count - a ≡ count = omega arith in
-      e ∙ ap (λ n. all_free m a n (Ok tt)) counted ∙ ap (λ (found : Option ℕ). refused_at Outside found (all_free m a count (Ok tt))) (sym none)
+      grind arith
 
   pub answer_accepted : Accepted m a count → Ok tt ≡ block_answer m a count
   unfolding block_answer
-  answer_accepted ok = ap (λ (found : Option ℕ). refused_at Protected found (Ok tt)) (sym ok.1) ∙ ap (λ (found : Option ℕ). refused_at Outside found (all_free m a count (Ok tt))) (sym ok.0)
+  answer_accepted ok = grind arith
 
   pub accepted : (u : Unit {0}) → Ok u ≡ block_answer m a count → Accepted m a count
   unfolding block_answer
-  accepted u e = by (first_failing (inside m.cells) a count) (first_failing (free m) a count) e
-    where
-      by : (outside shut : Option ℕ) → Ok u ≡ refused_at Outside outside (refused_at Protected shut (Ok (tt {0}))) → (outside ≡ None) × (shut ≡ None)
-      by (Some x) shut h = absurd (grind arith)
-      by None (Some y) h = absurd (grind arith)
-      by None None h = (refl, refl)
+  accepted u e = (grind arith, grind arith)
+
+pub ruleset questions = (none_found, fits, answer_outside, answer_free)
 
 -- and they tell the lowest address that fails
 pub refused_at_lowest : (m : Memory) (a count : ℕ) (r : Result (Unit {0}) StoreFault) → r ≡ block_answer m a count → RefusedAtLowest m a (a + count) r
@@ -66,19 +54,19 @@ unfolding block_answer
 refused_at_lowest m a count r e = by r (first_failing (inside m.cells) a count) refl (first_failing (free m) a count) refl e
   where
     by : (r : Result (Unit {0}) StoreFault) (outside : Option ℕ) → first_failing (inside m.cells) a count ≡ outside → (shut : Option ℕ) → first_failing (free m) a count ≡ shut → r ≡ refused_at Outside outside (refused_at Protected shut (Ok tt)) → RefusedAtLowest m a (a + count) r
-    by r (Some b) h shut k e = subst (RefusedAtLowest m a (a + count)) (sym e) (lowest_failing (inside m.cells) a count b h)
-    by r None h (Some b) k e = subst (RefusedAtLowest m a (a + count)) (sym e) (all_pass (inside m.cells) a count h, lowest_failing (free m) a count b k)
-    by r None h None k e = subst (RefusedAtLowest m a (a + count)) (sym e) (all_pass (inside m.cells) a count h, all_pass (free m) a count k)
+    by r (Some b) h shut k e = rw e (lowest_failing (inside m.cells) a count b h)
+    by r None h (Some b) k e = rw e (all_pass (inside m.cells) a count h, lowest_failing (free m) a count b k)
+    by r None h None k e = rw e (all_pass (inside m.cells) a count h, all_pass (free m) a count k)
 
 -- what a block leaves
 module _ (m : Memory) (a : ℕ) (bs : List ℕ) (label : ℕ) where
   pub left_as_it_was : (f : StoreFault) → Err f ≡ block_answer m a (length bs) → m ≡ block_written m a bs label
   unfolding block_written
-  left_as_it_was f e = ap (λ answer. if_ok answer (holding m (placed m.cells a bs label)) m) e
+  left_as_it_was f e = grind arith
 
   pub all_placed : Accepted m a (length bs) → holding m (placed m.cells a bs label) ≡ block_written m a bs label
   unfolding block_written
-  all_placed ok = ap (λ answer. if_ok answer (holding m (placed m.cells a bs label)) m) (answer_accepted m a (length bs) ok)
+  all_placed ok = let answer = answer_accepted m a (length bs) ok in grind arith
 
 -- the first byte of an accepted block is written, and the others are still accepted
 module _ (m : Memory) (a count : ℕ) (ok : Accepted m a (suc count)) where
@@ -89,7 +77,7 @@ module _ (m : Memory) (a count : ℕ) (ok : Accepted m a (suc count)) where
       grind (arith, nat_tests)
 
   first_written : (c : Cell) → written m a c ≡ holding m (set m.cells a c)
-  first_written c = ap (λ answer. if_ok answer (holding m (set m.cells a c)) m) first_accepted
+  first_written c = let answer = first_accepted in grind arith
 
   others_accepted : (c : Cell) → Accepted (holding m (set m.cells a c)) (a + 1) count
   others_accepted c = (
@@ -104,7 +92,7 @@ module _ (bs : List ℕ) (i a label : ℕ) (more : i < length bs) (m : Memory) w
 
   module _ (ok : Accepted m a (length (drop i bs))) where
     split : Accepted m a (suc (length (drop (i + 1) bs)))
-    split = subst (λ (left : List ℕ). Accepted m a (length left)) next_byte ok
+    split = rw next_byte at ok
 
     pub byte_accepted : write_answer m a ≡ Ok tt
     byte_accepted = first_accepted m a (length (drop (i + 1) bs)) split
@@ -112,10 +100,8 @@ module _ (bs : List ℕ) (i a label : ℕ) (more : i < length bs) (m : Memory) w
     pub byte_written : (after : Memory) → after ≡ written m a (cell (get_or bs i 0) label) → Accepted after (a + 1) (length (drop (i + 1) bs)) × (holding after (placed after.cells (a + 1) (drop (i + 1) bs) label) ≡ holding m (placed m.cells a (drop i bs) label))
     byte_written after e =
         let c = cell (get_or bs i 0) label in
-        let is = e ∙ first_written m a (length (drop (i + 1) bs)) split c in (
-          subst (λ n. Accepted n (a + 1) (length (drop (i + 1) bs))) (sym is) (others_accepted m a (length (drop (i + 1) bs)) split c),
-          ap (λ n. holding n (placed n.cells (a + 1) (drop (i + 1) bs) label)) is ∙ ap (λ (left : List ℕ). holding m (placed m.cells a left label)) (sym next_byte),
-        )
+        let is = e ∙ first_written m a (length (drop (i + 1) bs)) split c in
+        rw (is, next_byte) (others_accepted m a (length (drop (i + 1) bs)) split c, refl)
 
 -- no byte more
 pub last_byte : (bs : List ℕ) (i a label : ℕ) (all : length bs ≤ i) (m : Memory) → holding m (placed m.cells a (drop i bs) label) ≡ m

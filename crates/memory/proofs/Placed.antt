@@ -1,5 +1,5 @@
 -- The cells of a block that was put: its own bytes where it lies, and elsewhere what was there before.
-use Rattle.std.proofs.Common.{◌≡◌, ℕ, zero, suc, ◌+◌, ◌<◌, ◌≤◌, ◌⊎◌, List, [], ◌∷◌, length, get_or, set, Ok, Err, Result, sym, refl, ap, ◌∙◌, subst, inl, inr, ⊎_elim, arith, length-set}
+use Rattle.std.proofs.Common.{◌≡◌, ℕ, zero, suc, ◌+◌, ◌<◌, ◌≤◌, ◌⊎◌, List, [], ◌∷◌, length, get_or, set, Ok, Err, Result, sym, refl, ◌∙◌, inl, arith, length-set}
 use Rattle.std.proofs.lemmas.List.{get_or-set_same, get_or-set_other}
 use Rattle.std.proofs.lemmas.Bool.Decides.{nat_tests}
 use Rattle.memory.specs.declared.cell.Cell.{Cell}
@@ -7,7 +7,7 @@ use Rattle.memory.specs.declared.fault.StoreFault.{StoreFault}
 use Rattle.memory.specs.Memory.{Memory, cell, blank, looked, holding}
 use Rattle.memory.specs.Blocks.{placed, block_answer, block_written}
 use Rattle.memory.specs.Laws.{InARow, AllOrNothing}
-use Rattle.memory.proofs.Blocks.{Accepted, accepted, room, all_placed, left_as_it_was}
+use Rattle.memory.proofs.Blocks.{Accepted, accepted, answer_accepted, room, refused_at_lowest, all_placed, left_as_it_was, byte_accepted, byte_written, last_byte}
 
 -- the size is as it was
 placed_length : (cells : List Cell) (a : ℕ) (bs : List ℕ) (label : ℕ) → length (placed cells a bs label) ≡ length cells
@@ -18,22 +18,18 @@ placed_length cells a (b ∷ bs) label = placed_length (set cells a (cell b labe
 placed_elsewhere : (cells : List Cell) (a : ℕ) (bs : List ℕ) (label place : ℕ) (d : Cell) → (place < a) ⊎ (a + length bs ≤ place) → get_or (placed cells a bs label) place d ≡ get_or cells place d
 placed_elsewhere cells a [] label place d h = refl
 placed_elsewhere cells a (b ∷ bs) label place d h =
-    let apart : (place < a + 1) ⊎ (a + 1 + length bs ≤ place) = ⊎_elim (λ lower. inl (omega (arith, lower))) (λ higher. inr (omega (arith, higher))) h in
-    let other : place ≡ a → ⊥ = λ same. ⊎_elim (λ lower. omega (arith, lower, same)) (λ higher. omega (arith, higher, same)) h in
-    placed_elsewhere (set cells a (cell b label)) (a + 1) bs label place d apart ∙ get_or-set_other cells a place (cell b label) d other
+    placed_elsewhere (set cells a (cell b label)) (a + 1) bs label place d (grind arith) ∙ get_or-set_other cells a place (cell b label) d (λ same. grind arith)
 
 -- in the row they are the bytes
 placed_here : (cells : List Cell) (a : ℕ) (bs : List ℕ) (label i : ℕ) (d : Cell) → i < length bs → a + length bs ≤ length cells → get_or (placed cells a bs label) (a + i) d ≡ cell (get_or bs i 0) label
 placed_here cells a [] label i d h room = absurd (omega arith)
 placed_here cells a (b ∷ bs) label zero d h room =
     let here : a + 0 ≡ a = omega arith in
-    ap (λ k. get_or (placed cells a (b ∷ bs) label) k d) here
-    ∙ placed_elsewhere (set cells a (cell b label)) (a + 1) bs label a d (inl (omega arith))
-    ∙ get_or-set_same cells a (cell b label) d (omega arith)
+    rw here (placed_elsewhere (set cells a (cell b label)) (a + 1) bs label a d (inl (omega arith)) ∙ get_or-set_same cells a (cell b label) d (omega arith))
 placed_here cells a (b ∷ bs) label (suc i) d h room =
     let next : a + suc i ≡ a + 1 + i = omega arith in
     let size = length-set cells a (cell b label) in
-    ap (λ k. get_or (placed cells a (b ∷ bs) label) k d) next ∙ placed_here (set cells a (cell b label)) (a + 1) bs label i d (omega arith) (omega arith)
+    rw next (placed_here (set cells a (cell b label)) (a + 1) bs label i d (omega arith) (omega arith))
 
 -- the same of looks
 module _ (m : Memory) (a : ℕ) (bs : List ℕ) (label : ℕ) where
@@ -53,15 +49,13 @@ module _ (m : Memory) (a : ℕ) (bs : List ℕ) (label : ℕ) where
   pub in_a_row : Accepted m a (length bs) → InARow m (holding m (placed m.cells a bs label)) a bs label
   in_a_row ok =
       let free_cells = room m.cells a (length bs) ok.0 in
-      record {
-        here = λ i below. looked_here (omega (arith, free_cells, below)) i below;
-        elsewhere = looked_elsewhere;
-        protection = refl;
-      }
+      record { here = λ i below. looked_here (omega arith) i below; elsewhere = looked_elsewhere; protection = refl }
 
   -- and one that was refused left nothing behind
   pub all_or_nothing : (r : Result (Unit {0}) StoreFault) → r ≡ block_answer m a (length bs) → (after : Memory) → after ≡ block_written m a bs label → AllOrNothing r m after a bs label
   all_or_nothing (Ok u) e after left =
       let ok = accepted m a (length bs) u e in
-      subst (λ (n : Memory). InARow m n a bs label) (sym (left ∙ sym (all_placed m a bs label ok))) (in_a_row ok)
+      rw (left, ← all_placed m a bs label ok) (in_a_row ok)
   all_or_nothing (Err f) e after left = left ∙ sym (left_as_it_was m a bs label f e)
+
+pub ruleset writing = (accepted, answer_accepted, refused_at_lowest, left_as_it_was, all_placed, byte_accepted, byte_written, last_byte, all_or_nothing)

@@ -1,5 +1,5 @@
 pub mod Refusals
 pub mod Memory
-pub mod Stored
+pub mod Trimmed
 pub mod Blocks
 pub mod Laws

@@ -1,6 +1,6 @@
 -- What a store means, and what a look, the question about protection and a write answer and leave.
 -- Assumes nothing.
-use Rattle.std.specs.Prelude.{ℕ, Bool, cond, ◌&&◌, List, length, Ok, Err, Result, nat_lt, slice_index_or, slice_set}
+use Rattle.std.specs.Prelude.{◌≡◌, ℕ, ◌≤◌, Bool, false, cond, ◌&&◌, List, length, Ok, Err, Result, nat_lt, slice_index_or, slice_set}
 use Rattle.memory.specs.declared.cell.Cell.{Cell}
 use Rattle.memory.specs.declared.fault.StoreFault.{StoreFault}
 use Rattle.memory.specs.declared.fault.StoreFault.TheVariants.{Outside, Protected}
@@ -17,9 +17,13 @@ pub record Memory : Type 0 where
 abbrev pub inside : List Cell → ℕ → Bool
 inside cells a = nat_lt a (length cells)
 
+-- nothing past the size is protected
+abbrev pub Trimmed : Memory → Type 0
+Trimmed m = (a : ℕ) → length m.cells ≤ a → m.protected a ≡ false
+
 -- the memory of some cells under a protection, which means nothing past the size
-abbrev pub memory : List Cell → (ℕ → Bool) → Memory
-memory cells protects = record { cells = cells; protected = λ a. inside cells a && protects a }
+abbrev pub memory_of : List Cell → (ℕ → Bool) → Memory
+memory_of cells protects = record { cells = cells; protected = λ a. inside cells a && protects a }
 
 abbrev pub cell : ℕ → ℕ → Cell
 cell value label = record { value = value; label = label }

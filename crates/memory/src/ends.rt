@@ -1,6 +1,6 @@
-ghost use Rattle.std.specs.Prelude.{◌≡◌, ℕ, ◌≤◌, Bool, List, length};
+ghost use Rattle.std.specs.Prelude.{◌≡◌, ℕ, ◌≤◌, List, length};
 ghost use Rattle.memory.specs.declared.cell.Cell.{Cell};
-ghost use Rattle.memory.specs.Memory.{most_cells, memory, looked, asked, write_answer, written};
+ghost use Rattle.memory.specs.Memory.{Memory, Trimmed, most_cells, looked, asked, write_answer, written};
 
 use crate::{Cell, StoreFault};
 
@@ -24,7 +24,8 @@ pub trait ReadingEnd {
 
 // A reading end whose cells can be set, save those at protected addresses.
 pub trait Store: ReadingEnd {
-    ghost protects: { Self → ℕ → Bool };
+    // The memory that it stands for: the cells that are looked at, and which addresses are protected.
+    ghost memory: { Self → Memory };
 
     // What else a store stands on. No write changes it.
     ghost Frame: { Type 0 };
@@ -33,11 +34,15 @@ pub trait Store: ReadingEnd {
 
     // Whether an address is protected; 41 outside the size.
     fn protected(&self, address: u32) -> Result<bool, StoreFault>
-        ensures { result ≡ asked (memory (Self.cells self.now) (protects self.now)) address };
+        ensures { result ≡ asked (memory self.now) address };
 
     // Sets one cell; 41 outside the size, then 42 at a protected address. A refused write changes nothing.
     fn write(&mut self, address: u32, cell: Cell) -> Result<(), StoreFault>
-        ensures answer { result ≡ write_answer (memory (Self.cells self.old) (protects self.old)) address }
-        ensures memory { memory (Self.cells self.new) (protects self.new) ≡ written (memory (Self.cells self.old) (protects self.old)) address cell }
+        ensures answer { result ≡ write_answer (memory self.old) address }
+        ensures memory { memory self.new ≡ written (memory self.old) address cell }
         ensures frame { frame self.new ≡ frame self.old };
+
+    ghost same_cells: { (s : Self) → (memory s).cells ≡ Self.ReadingEnd.cells s };
+
+    ghost trimmed: { (s : Self) → Trimmed (memory s) };
 }

@@ -6,7 +6,7 @@ mod cell;
 mod ends;
 mod fault;
 
-pub use block::write_block;
+pub use block::{Block, write_block};
 pub use cell::Cell;
 pub use ends::{MOST_CELLS, ReadingEnd, Store};
 pub use fault::StoreFault;

@@ -1,15 +1,15 @@
 -- Two memories put together: a look, a question about protection and a write, below the joint and above it.
-use Rattle.std.proofs.Common.{◌≡◌, ℕ, ◌+◌, ◌-◌, ◌<◌, ◌≤◌, min, Bool, ltb, List, ◌++◌, length, set, Ok, Err, Result, sym, refl, ap, ◌∙◌, arith, length-append, length-set}
+use Rattle.std.proofs.Common.{◌≡◌, ℕ, ◌+◌, ◌-◌, ◌<◌, ◌≤◌, min, Bool, true, ltb, List, ◌++◌, length, set, Ok, Err, sym, refl, ap, ◌∙◌, arith, length-append, length-set}
 use Rattle.std.proofs.lemmas.List.{get_or_append_left, get_or-append_right, set-append_left, set-append_right}
 use Rattle.std.proofs.lemmas.Bool.Decides.{nat_tests}
 use Rattle.memory.specs.declared.Cell.{Cell}
-use Rattle.memory.specs.declared.StoreFault.{StoreFault}
-use Rattle.memory.specs.declared.StoreFault.TheVariants.{Outside}
-use Rattle.memory.specs.Memory.{most_cells, Memory, memory, blank, looked, asked, write_answer, written, holding, if_ok}
-use Rattle.memory.proofs.Protected.{alike, set_holding}
+use Rattle.memory.specs.declared.StoreFault.TheVariants.{Outside, Protected}
+use Rattle.memory.specs.Memory.{most_cells, Memory, Trimmed, memory_of, blank, looked, asked, write_answer, written, holding, if_ok}
+use Rattle.memory.proofs.Protected.{as_trimmed, alike, set_holding}
 use Rattle.stores.specs.Cut.{cut, cut_bounded}
 use Rattle.stores.specs.Joints.{across, joined, in_whole, lower_part}
 use Rattle.stores.specs.Laws.{Past, JoinedAsParts}
+use Rattle.stores.specs.Protection.{everything}
 use Rattle.stores.proofs.Cuts.{cut_length, cut_at, cut_set, cut_front}
 
 -- a look at one list of cells after another, cut: below the joint,
@@ -51,20 +51,22 @@ module _ (xs ys : List Cell) (a : ℕ) where
   pub looked_past : most_cells ≤ a → looked (cut (xs ++ ys)) a ≡ Err (Outside a)
   looked_past past = let size = cut_bounded (xs ++ ys) in grind (arith, nat_tests)
 
+pub ruleset looks = (looked_below, looked_above, looked_past)
+
 -- protections put together are those of the memories put together
-joined_memory : (xs ys : List Cell) (p q : ℕ → Bool) → memory (cut (xs ++ ys)) (across (length xs) p q) ≡ joined (memory xs p) (memory ys q)
+joined_memory : (xs ys : List Cell) (p q : ℕ → Bool) → memory_of (cut (xs ++ ys)) (across (length xs) p q) ≡ joined (memory_of xs p) (memory_of ys q)
 joined_memory xs ys p q =
     let size = cut_length (xs ++ ys) in
     let sum = length-append xs ys in
-    alike (cut (xs ++ ys)) (across (length xs) p q) (across (length xs) (memory xs p).protected (memory ys q).protected) (λ a inside. grind (arith, nat_tests))
+    alike (cut (xs ++ ys)) (across (length xs) p q) (across (length xs) (memory_of xs p).protected (memory_of ys q).protected) (λ a inside. grind (arith, nat_tests))
 
 -- the question about protection, and the answer to a write
 module _ (lower upper : Memory) (a : ℕ) where
   module _ (few : length lower.cells ≤ most_cells) (below : a < length lower.cells) where
-    asked_below : asked (joined lower upper) a ≡ asked lower a
+    pub asked_below : asked (joined lower upper) a ≡ asked lower a
     asked_below = let inside = inside_below lower.cells upper.cells a few below in grind (arith, nat_tests)
 
-    answer_below : write_answer (joined lower upper) a ≡ write_answer lower a
+    pub answer_below : write_answer (joined lower upper) a ≡ write_answer lower a
     answer_below = let inside = inside_below lower.cells upper.cells a few below in grind (arith, nat_tests)
 
   module _ (addressed : a < most_cells) (above : length lower.cells ≤ a) where
@@ -82,62 +84,52 @@ module _ (lower upper : Memory) (a : ℕ) where
 
 -- a cell set in one part is that cell set in the whole
 module _ (lower upper : Memory) (a : ℕ) (c : Cell) where
-  set_below : a < length lower.cells → joined (holding lower (set lower.cells a c)) upper ≡ holding (joined lower upper) (set (joined lower upper).cells a c)
-  set_below below =
-      let xs = lower.cells in
-      let ys = upper.cells in
-      let protects = across (length xs) lower.protected upper.protected in
-      ap (λ joint. memory (cut (set xs a c ++ ys)) (across joint lower.protected upper.protected)) (length-set xs a c)
-      ∙ ap (λ (cells : List Cell). memory (cut cells) protects) (sym (set-append_left xs ys a c below))
-      ∙ ap (λ (cells : List Cell). memory cells protects) (cut_set (xs ++ ys) a c)
-      ∙ set_holding (cut (xs ++ ys)) protects a c
+  set_below : a < most_cells → a < length lower.cells → joined (holding lower (set lower.cells a c)) upper ≡ holding (joined lower upper) (set (joined lower upper).cells a c)
+  set_below addressed below =
+      let whole = lower.cells ++ upper.cells in
+      rw (length-set lower.cells a c, ← set-append_left lower.cells upper.cells a c below, cut_set whole a c addressed)
+      (set_holding (cut whole) (across (length lower.cells) lower.protected upper.protected) a c)
 
-  set_above : length lower.cells ≤ a → joined lower (holding upper (set upper.cells (a - length lower.cells) c)) ≡ holding (joined lower upper) (set (joined lower upper).cells a c)
-  set_above above =
-      let xs = lower.cells in
-      let ys = upper.cells in
-      let protects = across (length xs) lower.protected upper.protected in
-      ap (λ (cells : List Cell). memory (cut cells) protects) (sym (set-append_right xs ys (length xs) a c refl above))
-      ∙ ap (λ (cells : List Cell). memory cells protects) (cut_set (xs ++ ys) a c)
-      ∙ set_holding (cut (xs ++ ys)) protects a c
+  set_above : a < most_cells → length lower.cells ≤ a → joined lower (holding upper (set upper.cells (a - length lower.cells) c)) ≡ holding (joined lower upper) (set (joined lower upper).cells a c)
+  set_above addressed above =
+      let whole = lower.cells ++ upper.cells in
+      rw (← set-append_right lower.cells upper.cells (length lower.cells) a c refl above, cut_set whole a c addressed)
+      (set_holding (cut whole) (across (length lower.cells) lower.protected upper.protected) a c)
 
-  written_below : length lower.cells ≤ most_cells → a < length lower.cells → joined (written lower a c) upper ≡ written (joined lower upper) a c
-  written_below few below = by (write_answer lower a) ∙ ap (λ answer. if_ok answer after (joined lower upper)) (sym (answer_below lower upper a few below))
-    where
-      after : Memory
-      after = holding (joined lower upper) (set (joined lower upper).cells a c)
-
-      by : (answer : Result (Unit {0}) StoreFault) → joined (if_ok answer (holding lower (set lower.cells a c)) lower) upper ≡ if_ok answer after (joined lower upper)
-      by (Ok u) = set_below below
-      by (Err f) = refl
+  pub written_below : length lower.cells ≤ most_cells → a < length lower.cells → joined (written lower a c) upper ≡ written (joined lower upper) a c
+  written_below few below =
+      let same = answer_below lower upper a few below in
+      let put = set_below (omega arith) below in
+      grind arith
 
   written_above : a < most_cells → length lower.cells ≤ a → joined lower (written upper (a - length lower.cells) c) ≡ written (joined lower upper) a c
-  written_above addressed above = by (write_answer upper (a - length lower.cells)) ∙ ap (λ answer. if_ok answer after (joined lower upper)) (sym (answer_above lower upper a addressed above))
-    where
-      after : Memory
-      after = holding (joined lower upper) (set (joined lower upper).cells a c)
+  written_above addressed above =
+      let same = answer_above lower upper a addressed above in
+      let put = set_above addressed above in
+      grind arith
 
-      by : (answer : Result (Unit {0}) StoreFault) → joined lower (if_ok answer (holding upper (set upper.cells (a - length lower.cells) c)) upper) ≡ if_ok (in_whole (length lower.cells) answer) after (joined lower upper)
-      by (Ok u) = set_above above
-      by (Err f) = refl
+-- a reading end above a store, all of whose addresses are protected: from the joint on nothing is written
+module _ (lower : Memory) (ys : List Cell) (a : ℕ) (above : length lower.cells ≤ a) where
+  abbrev whole : Memory
+  whole = joined lower (memory_of ys everything)
 
--- the same of two parts by their cells and their protections, below the joint
-module _ (xs ys : List Cell) (p q : ℕ → Bool) (a : ℕ) (few : length xs ≤ most_cells) (below : a < length xs) where
-  whole_memory : joined (memory xs p) (memory ys q) ≡ memory (cut (xs ++ ys)) (across (length xs) p q)
-  whole_memory = sym (joined_memory xs ys p q)
+  protected_upper : a < length (cut (lower.cells ++ ys)) → whole.protected a ≡ true
+  protected_upper inside =
+      let size = cut_length (lower.cells ++ ys) in
+      let sum = length-append lower.cells ys in
+      grind (arith, nat_tests)
 
-  pub lower_asked : asked (memory xs p) a ≡ asked (memory (cut (xs ++ ys)) (across (length xs) p q)) a
-  lower_asked = sym (asked_below (memory xs p) (memory ys q) a few below) ∙ ap (λ m. asked m a) whole_memory
+  pub asked_upper : a < length (cut (lower.cells ++ ys)) → Ok true ≡ asked (joined lower (memory_of ys everything)) a
+  asked_upper inside = let shut = protected_upper inside in grind (arith, nat_tests)
 
-  pub lower_answer : write_answer (memory xs p) a ≡ write_answer (memory (cut (xs ++ ys)) (across (length xs) p q)) a
-  lower_answer = sym (answer_below (memory xs p) (memory ys q) a few below) ∙ ap (λ m. write_answer m a) whole_memory
+  pub answer_upper : a < length (cut (lower.cells ++ ys)) → Err (Protected a) ≡ write_answer (joined lower (memory_of ys everything)) a
+  answer_upper inside = let shut = protected_upper inside in grind (arith, nat_tests)
 
-  pub lower_written : (c : Cell) (xs' : List Cell) (p' : ℕ → Bool) → memory xs' p' ≡ written (memory xs p) a c → memory (cut (xs' ++ ys)) (across (length xs') p' q) ≡ written (memory (cut (xs ++ ys)) (across (length xs) p q)) a c
-  lower_written c xs' p' wrote =
-      joined_memory xs' ys p' q
-      ∙ ap (λ m. joined m (memory ys q)) wrote
-      ∙ written_below (memory xs p) (memory ys q) a c few below
-      ∙ ap (λ m. written m a c) whole_memory
+  pub written_upper : (c : Cell) → written (joined lower (memory_of ys everything)) a c ≡ joined lower (memory_of ys everything)
+  written_upper c =
+      let size = cut_length (lower.cells ++ ys) in
+      let sum = length-append lower.cells ys in
+      grind (arith, nat_tests)
 
 -- past the cut all is refused
 all_past : (lower upper : Memory) (a : ℕ) → most_cells ≤ a → Past lower upper a
@@ -152,12 +144,12 @@ all_past lower upper a past =
     }
 
 -- the whole and the joint tell the lower part
-apart : (xs : List Cell) (p : ℕ → Bool) (upper : Memory) → length xs ≤ most_cells → lower_part (length xs) (joined (memory xs p) upper) ≡ memory xs p
-apart xs p upper few =
-    let whole = joined (memory xs p) upper in
-    let size = cut_length (xs ++ upper.cells) in
-    let sum = length-append xs upper.cells in
-    ap (λ (cells : List Cell). memory cells whole.protected) (cut_front xs upper.cells few) ∙ alike xs whole.protected p (λ a inside. grind (arith, nat_tests))
+apart : (lower upper : Memory) → Trimmed lower → length lower.cells ≤ most_cells → lower_part (length lower.cells) (joined lower upper) ≡ lower
+apart lower upper trimmed few =
+    let whole = joined lower upper in
+    let size = cut_length (lower.cells ++ upper.cells) in
+    let sum = length-append lower.cells upper.cells in
+    ap (λ (cells : List Cell). memory_of cells whole.protected) (cut_front lower.cells upper.cells few) ∙ as_trimmed lower whole.protected trimmed (λ a inside. grind (arith, nat_tests))
 
 pub joined_as_parts : JoinedAsParts
 joined_as_parts =
@@ -179,3 +171,5 @@ joined_as_parts =
       past = all_past;
       apart = apart;
     }
+
+pub ruleset uppers = (asked_upper, answer_upper, written_upper)

@@ -1,8 +1,7 @@
 -- The cells that can be addressed, of however many.
 -- Assumes nothing.
 use Rattle.std.specs.Prelude.{◌≡◌, ◌≤◌, List, length, take, drop}
-use Rattle.std.proofs.Common.{sym, subst, lit≤, length-take}
-use Rattle.std.proofs.Math.Nat.{min-le_left}
+use Rattle.std.proofs.Common.{arith, length-take}
 use Rattle.memory.specs.Memory.{most_cells}
 
 unfoldable pub cut : {X : Type 0} → List X → List X
@@ -15,8 +14,8 @@ rest xs = drop most_cells xs
 -- as many as a size can count
 pub cut_bounded : {X : Type 0} (xs : List X) → length (cut xs) ≤ most_cells
 unfolding cut
-cut_bounded xs = subst (λ size. size ≤ most_cells) (sym (length-take most_cells xs)) (min-le_left most_cells (length xs))
+cut_bounded xs = omega (arith, length-take most_cells xs)
 
 -- and so are 256
 pub small_bounded : {X : Type 0} (xs : List X) → length xs ≡ 256 → length xs ≤ most_cells
-small_bounded xs sized = subst (λ size. size ≤ most_cells) (sym sized) (lit≤ tt)
+small_bounded xs sized = omega arith

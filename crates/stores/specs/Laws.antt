@@ -3,7 +3,7 @@
 use Rattle.std.specs.Prelude.{◌≡◌, ℕ, ◌+◌, ◌-◌, ◌<◌, ◌≤◌, min, Bool, List, ◌++◌, length, Err}
 use Rattle.memory.specs.declared.Cell.{Cell}
 use Rattle.memory.specs.declared.StoreFault.TheVariants.{Outside}
-use Rattle.memory.specs.Memory.{most_cells, Memory, memory, looked, asked, write_answer, written}
+use Rattle.memory.specs.Memory.{most_cells, Memory, Trimmed, memory_of, looked, asked, write_answer, written}
 use Rattle.stores.specs.Cut.{cut}
 use Rattle.stores.specs.Joints.{across, joined, in_whole, lower_part}
 
@@ -30,10 +30,10 @@ pub record Past (lower upper : Memory) (a : ℕ) : Type 0 where
 
 pub record JoinedAsParts : Type 0 where
   -- cells and protections put together are the memories put together
-  pub meaning : (xs ys : List Cell) (p q : ℕ → Bool) → memory (cut (xs ++ ys)) (across (length xs) p q) ≡ joined (memory xs p) (memory ys q)
+  pub meaning : (xs ys : List Cell) (p q : ℕ → Bool) → memory_of (cut (xs ++ ys)) (across (length xs) p q) ≡ joined (memory_of xs p) (memory_of ys q)
   pub size : (lower upper : Memory) → length (joined lower upper).cells ≡ min most_cells (length lower.cells + length upper.cells)
   pub below : (lower upper : Memory) (a : ℕ) → length lower.cells ≤ most_cells → a < length lower.cells → Below lower upper a
   pub above : (lower upper : Memory) (a : ℕ) → length lower.cells ≤ a → a < most_cells → Above lower upper (length lower.cells) a
   pub past : (lower upper : Memory) (a : ℕ) → most_cells ≤ a → Past lower upper a
   -- the whole and the joint tell the lower part
-  pub apart : (xs : List Cell) (p : ℕ → Bool) (upper : Memory) → length xs ≤ most_cells → lower_part (length xs) (joined (memory xs p) upper) ≡ memory xs p
+  pub apart : (lower upper : Memory) → Trimmed lower → length lower.cells ≤ most_cells → lower_part (length lower.cells) (joined lower upper) ≡ lower

@@ -1,4 +1,4 @@
-ghost use Rattle.std.specs.Prelude.{◌≡◌};
+ghost use Rattle.std.specs.Prelude.{◌≡◌, ◌≤◌, length};
 ghost use Rattle.stores.specs.Cut.{cut, cut_bounded};
 ghost use Rattle.stores.specs.Echo.{heard};
 
@@ -18,6 +18,15 @@ impl<'a> EchoLine<'a> {
     {
         EchoLine { samples, label }
     }
+
+    // The samples that can be addressed.
+    #[tactic(auto, using(crate::proofs::Heard::hearing))]
+    fn heard(&self) -> &'a [u16]
+        ensures cells { heard self.now.label result.now ≡ cut (heard self.now.label self.now.samples.now) }
+        ensures count { length result.now ≤ 32768 }
+    {
+        &self.samples[..self.samples.len().min(MOST_CELLS as usize / 2)]
+    }
 }
 
 impl<'a> ReadingEnd for EchoLine<'a> {
@@ -25,15 +34,18 @@ impl<'a> ReadingEnd for EchoLine<'a> {
 
     ghost bounded = { λ e. cut_bounded (heard e.label e.samples.now) };
 
+    #[tactic(auto, using(crate::proofs::Heard::hearing))]
     fn size(&self) -> u32 {
-        2 * self.samples.len().min(MOST_CELLS as usize / 2) as u32
+        2 * self.heard().len() as u32
     }
 
+    #[tactic(auto, using(crate::proofs::Heard::hearing))]
     fn look(&self, address: u32) -> Result<Cell, StoreFault> {
-        if address >= self.size() {
-            return Err(StoreFault::Outside(address));
-        }
-        let [low, high] = self.samples[(address / 2) as usize].to_le_bytes();
+        let sample = self
+            .heard()
+            .get(address as usize / 2)
+            .ok_or(StoreFault::Outside(address))?;
+        let [low, high] = sample.to_le_bytes();
         let value = if address % 2 == 0 { low } else { high };
         Ok(Cell {
             value,

@@ -1,9 +1,12 @@
-ghost use Rattle.std.specs.Prelude.{◌≡◌, ℕ, List};
+ghost use Rattle.std.specs.Prelude.{◌≡◌, ℕ, List, refl};
 ghost use Rattle.memory.specs.declared.Cell.{Cell};
+ghost use Rattle.memory.specs.Memory.{memory_of};
+ghost use Rattle.memory.specs.Trimmed.{memory_trimmed};
 ghost use Rattle.stores.specs.Cut.{cut, rest, cut_bounded};
 ghost use Rattle.stores.specs.Protection.{nothing};
 
-use memory::{Cell, MOST_CELLS, ReadingEnd, Store, StoreFault};
+use crate::row;
+use memory::{Cell, ReadingEnd, Store, StoreFault};
 
 // The cells of an array that was lent, at most the first 65,536. None is protected.
 #[derive(Drop)]
@@ -26,20 +29,16 @@ impl<'a> ReadingEnd for FlatStore<'a> {
     ghost bounded = { λ s. cut_bounded s.cells.now };
 
     fn size(&self) -> u32 {
-        self.cells.len().min(MOST_CELLS as usize) as u32
+        row::size(self.cells)
     }
 
     fn look(&self, address: u32) -> Result<Cell, StoreFault> {
-        if address < self.size() {
-            Ok(self.cells[address as usize])
-        } else {
-            Err(StoreFault::Outside(address))
-        }
+        row::look(self.cells, address)
     }
 }
 
 impl<'a> Store for FlatStore<'a> {
-    ghost protects = { λ _. nothing };
+    ghost memory = { λ s. memory_of (cut s.cells.now) nothing };
 
     // The array that was lent, and its cells past the cut.
     ghost Frame = { ℕ × List Cell };
@@ -47,19 +46,14 @@ impl<'a> Store for FlatStore<'a> {
     ghost frame = { λ s. (s.cells.ghost_name, rest s.cells.now) };
 
     fn protected(&self, address: u32) -> Result<bool, StoreFault> {
-        if address < self.size() {
-            Ok(false)
-        } else {
-            Err(StoreFault::Outside(address))
-        }
+        row::protected(self.cells, address)
     }
 
     fn write(&mut self, address: u32, cell: Cell) -> Result<(), StoreFault> {
-        if address < self.size() {
-            self.cells[address as usize] = cell;
-            Ok(())
-        } else {
-            Err(StoreFault::Outside(address))
-        }
+        row::write(self.cells, address, cell)
     }
+
+    ghost same_cells = { λ s. refl };
+
+    ghost trimmed = { λ s. memory_trimmed (cut s.cells.now) nothing };
 }

@@ -19,28 +19,29 @@ fn raised(fault: StoreFault, joint: u32) -> StoreFault
 }
 
 // The size of both together.
+#[tactic(auto, using(crate::proofs::Cuts::sums))]
 pub(crate) fn joint_size<L: ReadingEnd, U: ReadingEnd>(lower: &L, upper: &U) -> u32
-    ensures { result ≡ length (cut (L.ReadingEnd.cells lower.now ++ U.ReadingEnd.cells upper.now)) }
+    ensures { result ≡ length (cut (L.cells lower.now ++ U.cells upper.now)) }
 {
     (lower.size() + upper.size()).min(MOST_CELLS)
 }
 
 // A look at both together.
+#[tactic(auto, using(crate::proofs::Joints::looks))]
 pub(crate) fn joint_look<L: ReadingEnd, U: ReadingEnd>(
     lower: &L,
     upper: &U,
     address: u32,
 ) -> Result<Cell, StoreFault>
-    ensures { result ≡ looked (cut (L.ReadingEnd.cells lower.now ++ U.ReadingEnd.cells upper.now)) address }
+    ensures { result ≡ looked (cut (L.cells lower.now ++ U.cells upper.now)) address }
 {
     let joint = lower.size();
     if address < joint {
         lower.look(address)
     } else if address < MOST_CELLS {
-        match upper.look(address - joint) {
-            Ok(cell) => Ok(cell),
-            Err(fault) => Err(raised(fault, joint)),
-        }
+        upper
+            .look(address - joint)
+            .map_err(|fault| raised(fault, joint))
     } else {
         Err(StoreFault::Outside(address))
     }

@@ -4,11 +4,12 @@
 mod echo;
 mod flat;
 mod joint;
+mod row;
 mod small;
 mod split;
 
 pub use echo::EchoLine;
 pub use flat::FlatStore;
-pub use memory::{Cell, MOST_CELLS, ReadingEnd, Store, StoreFault, write_block};
+pub use memory::{Block, Cell, MOST_CELLS, ReadingEnd, Store, StoreFault, write_block};
 pub use small::SmallStore;
 pub use split::SplitMap;

@@ -1,8 +1,12 @@
-ghost use Rattle.std.specs.Prelude.{◌≡◌, length, replicate};
-ghost use Rattle.memory.specs.Memory.{blank};
+#![tactic(auto, using(crate::proofs::Cuts::uncut))]
+
+ghost use Rattle.std.specs.Prelude.{◌≡◌, length, replicate, refl};
+ghost use Rattle.memory.specs.Memory.{memory_of, blank};
+ghost use Rattle.memory.specs.Trimmed.{memory_trimmed};
 ghost use Rattle.stores.specs.Cut.{small_bounded};
 ghost use Rattle.stores.specs.Protection.{nothing};
 
+use crate::row;
 use memory::{Cell, ReadingEnd, Store, StoreFault};
 
 // How many cells a small store has.
@@ -31,39 +35,30 @@ impl ReadingEnd for SmallStore {
     ghost bounded = { λ s. small_bounded s.cells s.sized };
 
     fn size(&self) -> u32 {
-        CELLS as u32
+        row::size(&self.cells)
     }
 
     fn look(&self, address: u32) -> Result<Cell, StoreFault> {
-        if address < self.size() {
-            Ok(self.cells[address as usize])
-        } else {
-            Err(StoreFault::Outside(address))
-        }
+        row::look(&self.cells, address)
     }
 }
 
 impl Store for SmallStore {
-    ghost protects = { λ _. nothing };
+    ghost memory = { λ s. memory_of s.cells nothing };
 
     ghost Frame = { Unit {0} };
 
     ghost frame = { λ _. tt };
 
     fn protected(&self, address: u32) -> Result<bool, StoreFault> {
-        if address < self.size() {
-            Ok(false)
-        } else {
-            Err(StoreFault::Outside(address))
-        }
+        row::protected(&self.cells, address)
     }
 
     fn write(&mut self, address: u32, cell: Cell) -> Result<(), StoreFault> {
-        if address < self.size() {
-            self.cells[address as usize] = cell;
-            Ok(())
-        } else {
-            Err(StoreFault::Outside(address))
-        }
+        row::write(&mut self.cells, address, cell)
     }
+
+    ghost same_cells = { λ s. refl };
+
+    ghost trimmed = { λ s. memory_trimmed s.cells nothing };
 }

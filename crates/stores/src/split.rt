@@ -1,6 +1,7 @@
 ghost use Rattle.std.specs.Prelude.{◌≡◌, ℕ, ◌++◌, length};
+ghost use Rattle.memory.specs.Memory.{memory_of};
 ghost use Rattle.stores.specs.Cut.{cut, cut_bounded};
-ghost use Rattle.stores.specs.Joints.{across};
+ghost use Rattle.stores.specs.Joints.{joined, joined_cells, joined_trimmed};
 ghost use Rattle.stores.specs.Laws.{JoinedAsParts};
 ghost use Rattle.stores.specs.Protection.{everything};
 
@@ -15,6 +16,7 @@ pub struct SplitMap<S, R> {
 }
 
 impl<S: Store, R: ReadingEnd> SplitMap<S, R> {
+    #[tactic(auto, using(crate::proofs::Joints::joined_as_parts))]
     pub fn new(lower: S, upper: R) -> SplitMap<S, R>
         ensures lower { result.lower ≡ lower }
         ensures upper { result.upper ≡ upper }
@@ -34,9 +36,9 @@ impl<S: Store, R: ReadingEnd> SplitMap<S, R> {
 }
 
 impl<S: Store, R: ReadingEnd> ReadingEnd for SplitMap<S, R> {
-    ghost cells = { λ m. cut (S.ReadingEnd.cells m.lower ++ R.ReadingEnd.cells m.upper) };
+    ghost cells = { λ m. cut (S.cells m.lower ++ R.cells m.upper) };
 
-    ghost bounded = { λ m. cut_bounded (S.ReadingEnd.cells m.lower ++ R.ReadingEnd.cells m.upper) };
+    ghost bounded = { λ m. cut_bounded (S.cells m.lower ++ R.cells m.upper) };
 
     fn size(&self) -> u32 {
         joint_size(&self.lower, &self.upper)
@@ -48,13 +50,14 @@ impl<S: Store, R: ReadingEnd> ReadingEnd for SplitMap<S, R> {
 }
 
 impl<S: Store, R: ReadingEnd> Store for SplitMap<S, R> {
-    ghost protects = { λ m. across (length (S.ReadingEnd.cells m.lower)) (S.Store.protects m.lower) everything };
+    ghost memory = { λ m. joined (S.memory m.lower) (memory_of (R.cells m.upper) everything) };
 
     // The frame of the store, the joint, and the reading end.
-    ghost Frame = { S.Store.Frame × ℕ × R };
+    ghost Frame = { S.Frame × ℕ × R };
 
-    ghost frame = { λ m. (S.Store.frame m.lower, length (S.ReadingEnd.cells m.lower), m.upper) };
+    ghost frame = { λ m. (S.frame m.lower, length (S.cells m.lower), m.upper) };
 
+    #[tactic(auto, using(crate::proofs::Joints::uppers))]
     fn protected(&self, address: u32) -> Result<bool, StoreFault> {
         if address < self.lower.size() {
             self.lower.protected(address)
@@ -65,6 +68,7 @@ impl<S: Store, R: ReadingEnd> Store for SplitMap<S, R> {
         }
     }
 
+    #[tactic(auto, using(crate::proofs::Joints::uppers))]
     fn write(&mut self, address: u32, cell: Cell) -> Result<(), StoreFault> {
         if address < self.lower.size() {
             self.lower.write(address, cell)
@@ -74,4 +78,8 @@ impl<S: Store, R: ReadingEnd> Store for SplitMap<S, R> {
             Err(StoreFault::Outside(address))
         }
     }
+
+    ghost same_cells = { λ m. joined_cells (S.memory m.lower) (memory_of (R.cells m.upper) everything) (S.cells m.lower) (S.same_cells m.lower) };
+
+    ghost trimmed = { λ m. joined_trimmed (S.memory m.lower) (memory_of (R.cells m.upper) everything) };
 }

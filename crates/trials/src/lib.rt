@@ -12,8 +12,6 @@ mod tests;
 pub use apart::write_then_part;
 pub use callers::{block_then_look, look_elsewhere, write_then_look};
 pub use lenders::lend_flat;
-pub use meanings::{
-    boats_sees_join, echo_look, map_look, map_protected, map_write, ranks_sees_join, small_look,
-};
+pub use meanings::{echo_look, map_look, map_protected, map_write, small_look};
 pub use roster::Roster;
-pub use sight::{sees_join, sees_public};
+pub use sight::{ranks_and_boats_see_join, sees_join, sees_public};

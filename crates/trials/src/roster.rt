@@ -22,10 +22,8 @@ impl<'a> Roster<'a> {
     {
         if label == 0 {
             0
-        } else if (label as usize) < self.ranks.len() {
-            self.ranks[label as usize]
         } else {
-            0
+            self.ranks.get(usize::from(label)).copied().unwrap_or(0)
         }
     }
 }

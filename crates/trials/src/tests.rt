@@ -6,9 +6,10 @@ mod sizes;
 
 #[cfg(test)]
 pub(crate) mod tables {
+    use std::fmt::Debug;
     use std::process::Abort;
     use std::test::Fail;
-    use stores::{Cell, ReadingEnd, Store, StoreFault, write_block};
+    use stores::{Block, Cell, ReadingEnd, Store, StoreFault, write_block};
 
     pub(crate) const BLANK: Cell = Cell { value: 0, label: 0 };
 
@@ -27,6 +28,19 @@ pub(crate) mod tables {
         StoreFault::Protected(address)
     }
 
+    // The answer to each question of a table, which stands beside it.
+    pub(crate) fn expect_answers<Q: Copy, A: Copy + PartialEq + Debug, F: FnMut(Q) -> A>(
+        rt: &impl Abort,
+        table: &[(Q, A)],
+        mut ask: F,
+    )
+        requires { F.IsAlwaysCallable ask }
+    {
+        for &(question, answer) in table {
+            assert_eq!(rt; ask(question), answer);
+        }
+    }
+
     // The size, and what stands at each address of a table.
     pub(crate) fn expect_cells<E: ReadingEnd>(
         rt: &impl Abort,
@@ -35,31 +49,7 @@ pub(crate) mod tables {
         table: &[(u32, Result<Cell, StoreFault>)],
     ) {
         assert_eq!(rt; end.size(), size);
-        for (address, cell) in table {
-            assert_eq!(rt; end.look(*address), *cell);
-        }
-    }
-
-    // The answers to writes of the filled cell at the addresses of a table.
-    pub(crate) fn expect_writes<S: Store>(
-        rt: &impl Abort,
-        store: &mut S,
-        table: &[(u32, Result<(), StoreFault>)],
-    ) {
-        for (address, answer) in table {
-            assert_eq!(rt; store.write(*address, FILLED), *answer);
-        }
-    }
-
-    // Whether each address of a table is protected.
-    pub(crate) fn expect_protection<S: Store>(
-        rt: &impl Abort,
-        store: &S,
-        table: &[(u32, Result<bool, StoreFault>)],
-    ) {
-        for (address, answer) in table {
-            assert_eq!(rt; store.protected(*address), *answer);
-        }
+        expect_answers(rt, table, |address| end.look(address));
     }
 
     // Each row of a table has an address, a number of bytes and the answer. The bytes are 1, 2, 3 and so on up to 8, under label 5.
@@ -69,11 +59,17 @@ pub(crate) mod tables {
         table: &[(u16, usize, Result<(), StoreFault>)],
     ) -> Result<(), Fail> {
         let bytes = [1, 2, 3, 4, 5, 6, 7, 8];
-        for (address, count, answer) in table {
-            if *count > 8 {
+        // A loop of its own, since a count past these bytes ends the test.
+        for &(address, count, answer) in table {
+            let Some(bytes) = bytes.get(..count) else {
                 return Err(Fail::new("a block of more than eight bytes"));
-            }
-            assert_eq!(rt; write_block(store, *address, &bytes[..*count], 5), *answer);
+            };
+            let block = Block {
+                address,
+                bytes,
+                label: 5,
+            };
+            assert_eq!(rt; write_block(store, block), answer);
         }
         Ok(())
     }

@@ -2,9 +2,9 @@
 #[cfg(test)]
 mod cases {
     use crate::tests::tables::{
-        BLANK, FILLED, expect_cells, expect_protection, expect_writes, heard, outside, protected,
+        BLANK, FILLED, expect_answers, expect_cells, heard, outside, protected,
     };
-    use stores::{Cell, EchoLine, FlatStore, SmallStore, SplitMap};
+    use stores::{Cell, EchoLine, FlatStore, SmallStore, SplitMap, Store};
 
     #[test]
     fn both_sides_of_the_joint(rt: HostRuntime) {
@@ -17,16 +17,16 @@ mod cases {
             (6, Err(protected(6))),
             (7, Err(outside(7))),
         ];
-        expect_writes(&rt, &mut map, &answers);
-        expect_protection(
+        expect_answers(&rt, &answers, |address| map.write(address, FILLED));
+        expect_answers(
             &rt,
-            &map,
             &[
                 (2, Ok(false)),
                 (3, Ok(true)),
                 (6, Ok(true)),
                 (7, Err(outside(7))),
             ],
+            |address| map.protected(address),
         );
         let all = [
             (1, Ok(BLANK)),
@@ -46,10 +46,10 @@ mod cases {
         let mut none: [Cell; 0] = [];
         let samples = [0x1234];
         let mut map = SplitMap::new(FlatStore::new(&mut none), EchoLine::new(&samples, 9));
-        expect_writes(
+        expect_answers(
             &rt,
-            &mut map,
             &[(0, Err(protected(0))), (2, Err(outside(2)))],
+            |address| map.write(address, FILLED),
         );
         expect_cells(
             &rt,
@@ -64,7 +64,11 @@ mod cases {
         let mut cells = [BLANK; 2];
         let silence: [u16; 0] = [];
         let mut map = SplitMap::new(FlatStore::new(&mut cells), EchoLine::new(&silence, 9));
-        expect_writes(&rt, &mut map, &[(1, Ok(())), (2, Err(outside(2)))]);
+        expect_answers(
+            &rt,
+            &[(1, Ok(())), (2, Err(outside(2)))],
+            |address| map.write(address, FILLED),
+        );
         expect_cells(
             &rt,
             &map,
@@ -77,15 +81,15 @@ mod cases {
     fn a_store_above_is_protected(rt: HostRuntime) {
         let mut cells = [BLANK; 3];
         let mut map = SplitMap::new(FlatStore::new(&mut cells), SmallStore::new());
-        expect_writes(
+        expect_answers(
             &rt,
-            &mut map,
             &[
                 (2, Ok(())),
                 (3, Err(protected(3))),
                 (258, Err(protected(258))),
                 (259, Err(outside(259))),
             ],
+            |address| map.write(address, FILLED),
         );
         expect_cells(
             &rt,
@@ -127,11 +131,11 @@ mod cases {
             (65_535, Err(protected(65_535))),
             (65_536, Err(outside(65_536))),
         ];
-        expect_writes(&rt, &mut map, &answers);
-        expect_protection(
+        expect_answers(&rt, &answers, |address| map.write(address, FILLED));
+        expect_answers(
             &rt,
-            &map,
             &[(65_535, Ok(true)), (65_536, Err(outside(65_536)))],
+            |address| map.protected(address),
         );
         expect_cells(
             &rt,
@@ -150,10 +154,10 @@ mod cases {
         let mut cells = [BLANK; 65_536];
         let samples = [0x1234];
         let mut map = SplitMap::new(FlatStore::new(&mut cells), EchoLine::new(&samples, 9));
-        expect_writes(
+        expect_answers(
             &rt,
-            &mut map,
             &[(65_535, Ok(())), (65_536, Err(outside(65_536)))],
+            |address| map.write(address, FILLED),
         );
         expect_cells(
             &rt,
@@ -170,10 +174,10 @@ mod cases {
         let far = [0x0403];
         let lower = SplitMap::new(FlatStore::new(&mut cells), EchoLine::new(&near, 9));
         let mut map = SplitMap::new(lower, EchoLine::new(&far, 9));
-        expect_writes(
+        expect_answers(
             &rt,
-            &mut map,
             &[(0, Ok(())), (1, Err(protected(1))), (4, Err(protected(4)))],
+            |address| map.write(address, FILLED),
         );
         let all = [
             (0, Ok(FILLED)),

@@ -2,62 +2,48 @@
 #[cfg(test)]
 mod cases {
     use crate::Roster;
+    use crate::tests::tables::expect_answers;
     use labels::{Boats, Labelling, Ranks};
-    use std::process::Abort;
-
-    // The join of each pair of a table.
-    fn expect_joins<L: Labelling>(rt: &impl Abort, labelling: &L, table: &[(u8, u8, u8)]) {
-        for (first, second, join) in table {
-            assert_eq!(rt; labelling.join(*first, *second), *join);
-        }
-    }
-
-    // Whether each reader of a table sees the label beside it.
-    fn expect_sight<L: Labelling>(rt: &impl Abort, labelling: &L, table: &[(u8, u8, bool)]) {
-        for (reader, label, seen) in table {
-            assert_eq!(rt; labelling.sees(*reader, *label), *seen);
-        }
-    }
 
     #[test]
     fn ranks(rt: HostRuntime) {
-        expect_joins(
+        expect_answers(
             &rt,
-            &Ranks,
-            &[(3, 5, 5), (5, 3, 5), (4, 4, 4), (0, 255, 255)],
+            &[((3, 5), 5), ((5, 3), 5), ((4, 4), 4), ((0, 255), 255)],
+            |(first, second)| Ranks.join(first, second),
         );
-        expect_sight(
+        expect_answers(
             &rt,
-            &Ranks,
             &[
-                (1, 0, true),
-                (1, 1, true),
-                (1, 2, false),
-                (0, 0, true),
-                (0, 1, false),
-                (255, 255, true),
+                ((1, 0), true),
+                ((1, 1), true),
+                ((1, 2), false),
+                ((0, 0), true),
+                ((0, 1), false),
+                ((255, 255), true),
             ],
+            |(reader, label)| Ranks.sees(reader, label),
         );
     }
 
     #[test]
     fn boats(rt: HostRuntime) {
-        expect_joins(
+        expect_answers(
             &rt,
-            &Boats,
-            &[(0b0101, 0b0011, 0b0111), (0, 0b1000_0000, 0b1000_0000)],
+            &[((0b0101, 0b0011), 0b0111), ((0, 0b1000_0000), 0b1000_0000)],
+            |(first, second)| Boats.join(first, second),
         );
-        expect_sight(
+        expect_answers(
             &rt,
-            &Boats,
             &[
-                (0b0111, 0b0101, true),
-                (0b0111, 0b1001, false),
-                (0b0100, 0b0101, false),
-                (0, 0, true),
-                (0, 1, false),
-                (128, 128, true),
+                ((0b0111, 0b0101), true),
+                ((0b0111, 0b1001), false),
+                ((0b0100, 0b0101), false),
+                ((0, 0), true),
+                ((0, 1), false),
+                ((128, 128), true),
             ],
+            |(reader, label)| Boats.sees(reader, label),
         );
     }
 
@@ -65,22 +51,27 @@ mod cases {
     fn roster(rt: HostRuntime) {
         let ranks = [9, 4, 4, 6];
         let roster = Roster::new(&ranks);
-        expect_joins(
+        expect_answers(
             &rt,
-            &roster,
             &[
-                (1, 3, 3),
-                (3, 1, 3),
-                (1, 2, 1),
-                (2, 1, 2),
-                (0, 200, 0),
-                (200, 0, 200),
+                ((1, 3), 3),
+                ((3, 1), 3),
+                ((1, 2), 1),
+                ((2, 1), 2),
+                ((0, 200), 0),
+                ((200, 0), 200),
             ],
+            |(first, second)| roster.join(first, second),
         );
-        expect_sight(
+        expect_answers(
             &rt,
-            &roster,
-            &[(1, 2, true), (1, 3, false), (200, 0, true), (200, 1, false)],
+            &[
+                ((1, 2), true),
+                ((1, 3), false),
+                ((200, 0), true),
+                ((200, 1), false),
+            ],
+            |(reader, label)| roster.sees(reader, label),
         );
     }
 }

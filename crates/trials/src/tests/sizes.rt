@@ -2,16 +2,24 @@
 #[cfg(test)]
 mod cases {
     use crate::tests::tables::{
-        BLANK, FILLED, expect_cells, expect_protection, expect_writes, heard, outside, protected,
+        BLANK, FILLED, expect_answers, expect_cells, heard, outside, protected,
     };
-    use stores::{Cell, EchoLine, FlatStore, SmallStore};
+    use stores::{Cell, EchoLine, FlatStore, SmallStore, Store};
 
     #[test]
     fn empty_flat_store(rt: HostRuntime) {
         let mut cells: [Cell; 0] = [];
         let mut store = FlatStore::new(&mut cells);
-        expect_writes(&rt, &mut store, &[(0, Err(outside(0)))]);
-        expect_protection(&rt, &store, &[(0, Err(outside(0)))]);
+        expect_answers(
+            &rt,
+            &[(0, Err(outside(0)))],
+            |address| store.write(address, FILLED),
+        );
+        expect_answers(
+            &rt,
+            &[(0, Err(outside(0)))],
+            |address| store.protected(address),
+        );
         expect_cells(&rt, &store, 0, &[(0, Err(outside(0)))]);
     }
 
@@ -19,8 +27,12 @@ mod cases {
     fn flat_store_of_one_cell(rt: HostRuntime) {
         let mut cells = [BLANK; 1];
         let mut store = FlatStore::new(&mut cells);
-        expect_writes(&rt, &mut store, &[(0, Ok(())), (1, Err(outside(1)))]);
-        expect_protection(&rt, &store, &[(0, Ok(false))]);
+        expect_answers(
+            &rt,
+            &[(0, Ok(())), (1, Err(outside(1)))],
+            |address| store.write(address, FILLED),
+        );
+        expect_answers(&rt, &[(0, Ok(false))], |address| store.protected(address));
         expect_cells(&rt, &store, 1, &[(0, Ok(FILLED)), (1, Err(outside(1)))]);
     }
 
@@ -28,15 +40,15 @@ mod cases {
     fn flat_store_of_the_most_cells(rt: HostRuntime) {
         let mut cells = [BLANK; 65_536];
         let mut store = FlatStore::new(&mut cells);
-        expect_writes(
+        expect_answers(
             &rt,
-            &mut store,
             &[(65_535, Ok(())), (65_536, Err(outside(65_536)))],
+            |address| store.write(address, FILLED),
         );
-        expect_protection(
+        expect_answers(
             &rt,
-            &store,
             &[(65_535, Ok(false)), (65_536, Err(outside(65_536)))],
+            |address| store.protected(address),
         );
         expect_cells(
             &rt,
@@ -50,10 +62,10 @@ mod cases {
     fn flat_store_that_is_cut(rt: HostRuntime) {
         let mut cells = [BLANK; 65_537];
         let mut store = FlatStore::new(&mut cells);
-        expect_writes(
+        expect_answers(
             &rt,
-            &mut store,
             &[(65_535, Ok(())), (65_536, Err(outside(65_536)))],
+            |address| store.write(address, FILLED),
         );
         expect_cells(
             &rt,
@@ -73,8 +85,16 @@ mod cases {
             256,
             &[(0, Ok(BLANK)), (254, Ok(BLANK)), (255, Ok(BLANK))],
         );
-        expect_writes(&rt, &mut store, &[(255, Ok(())), (256, Err(outside(256)))]);
-        expect_protection(&rt, &store, &[(255, Ok(false)), (256, Err(outside(256)))]);
+        expect_answers(
+            &rt,
+            &[(255, Ok(())), (256, Err(outside(256)))],
+            |address| store.write(address, FILLED),
+        );
+        expect_answers(
+            &rt,
+            &[(255, Ok(false)), (256, Err(outside(256)))],
+            |address| store.protected(address),
+        );
         expect_cells(
             &rt,
             &store,

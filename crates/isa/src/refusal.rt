@@ -12,7 +12,6 @@ pub enum CodecError {
 }
 
 // Each `From` by hand: a derived one has no contract, and callers are told which case it makes.
-
 impl From<DecodeError> for CodecError {
     ghost from_gives = { λ e r. r ≡ Decode e };
 
@@ -30,6 +29,7 @@ impl From<EncodeError> for CodecError {
 }
 
 impl CodecError {
+    // By a match, since the cases hold refusals and no cast gives their numbers.
     pub fn number(self) -> u8
         ensures { result ≡ codec_number self }
     {

@@ -60,6 +60,7 @@ pub fn write_block<S: Store>(store: &mut S, block: Block<'_>) -> Result<(), Stor
 {
     let mut at = u32::from(block.address);
     check_block(store, at, block.bytes.len())?;
+    // One byte after another with a count beside them for the address: the form that this project fixes for it.
     for &value in block.bytes {
         store.write(
             at,

@@ -9,6 +9,7 @@ pub enum StoreFault {
 }
 
 impl StoreFault {
+    // By a match, since the cases hold addresses and no cast gives their numbers.
     pub fn number(self) -> u8
         ensures { result ≡ (told self).number }
     {

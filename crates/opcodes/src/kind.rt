@@ -132,15 +132,16 @@ impl TryFrom<u8> for Kind {
 }
 
 impl Kind {
-    // 1 to 50.
+    // 1 to 50. No `From` into numbers, which would not say whether this one is meant or the code.
     pub fn number(self) -> u8
         ensures { result ≡ number self }
     {
         self as u8
     }
 
-    // The name as it is typed, in lower case. One line for each kind: a table of rows, name and code and format, was tried, and the proof of a
-    // look into it did not close, since its names lie at addresses that a proof cannot write.
+    // The name as it is typed, in lower case: a static text, which a record's `Display` uses as it is. One line for each kind: a table of rows
+    // with name, code and format was tried, and the proof of a look into it did not close, since its names lie at addresses that a proof
+    // cannot write.
     pub fn name(self) -> &'static str
         ensures { result.now ≡ name self }
     {

@@ -1,7 +1,8 @@
 // The fifty kinds of instruction, and what each is: its number, its name as typed, its code and its format.
-ghost use Rattle.std.specs.Prelude.{◌≡◌};
+ghost use Rattle.std.specs.Prelude.{◌≡◌, slice_get};
 ghost use Rattle.std.specs.Result.{result_ok};
-ghost use Rattle.opcodes.specs.Kinds.{number, name, code, format, kind_numbered};
+ghost use Rattle.opcodes.specs.Kinds.{number, name, code, format, kinds, kind_numbered};
+ghost use Rattle.opcodes.specs.Rows.{IsRow, IsTable};
 
 use crate::format::Format;
 
@@ -60,58 +61,61 @@ pub enum Kind {
     Nop,
 }
 
+// A kind, its name as it is typed, its code and its format.
+struct Row(Kind, &'static str, u8, Format);
+
 // The kinds by number, from 1 on.
-const KINDS: &[Kind; 50] = &[
-    Kind::Add,
-    Kind::Sub,
-    Kind::And,
-    Kind::Xor,
-    Kind::Or,
-    Kind::Lsl,
-    Kind::Lsr,
-    Kind::Asr,
-    Kind::Addi,
-    Kind::Andi,
-    Kind::Xori,
-    Kind::Ori,
-    Kind::Li,
-    Kind::Lsli,
-    Kind::Lsri,
-    Kind::Asri,
-    Kind::Beq,
-    Kind::Bne,
-    Kind::Blt,
-    Kind::Bltu,
-    Kind::Ble,
-    Kind::Bleu,
-    Kind::Lw,
-    Kind::Lb,
-    Kind::Lbu,
-    Kind::Sw,
-    Kind::Sb,
-    Kind::Mov,
-    Kind::Add2,
-    Kind::Sub2,
-    Kind::And2,
-    Kind::Xor2,
-    Kind::Or2,
-    Kind::Lsl2,
-    Kind::Lsr2,
-    Kind::Asr2,
-    Kind::Addi2,
-    Kind::Andi2,
-    Kind::Lsi,
-    Kind::Lui,
-    Kind::Lsli2,
-    Kind::Lsri2,
-    Kind::Asri2,
-    Kind::Jalr,
-    Kind::Jr,
-    Kind::Js,
-    Kind::Jsal,
-    Kind::Lwsp,
-    Kind::Swsp,
-    Kind::Nop,
+const ROWS: &[Row; 50] = &[
+    Row(Kind::Add, "add", 0x01, Format::RegRegReg),
+    Row(Kind::Sub, "sub", 0x09, Format::RegRegReg),
+    Row(Kind::And, "and", 0x11, Format::RegRegReg),
+    Row(Kind::Xor, "xor", 0x19, Format::RegRegReg),
+    Row(Kind::Or, "or", 0x21, Format::RegRegReg),
+    Row(Kind::Lsl, "lsl", 0x29, Format::RegRegReg),
+    Row(Kind::Lsr, "lsr", 0x31, Format::RegRegReg),
+    Row(Kind::Asr, "asr", 0x39, Format::RegRegReg),
+    Row(Kind::Addi, "addi", 0x03, Format::RegRegImm),
+    Row(Kind::Andi, "andi", 0x13, Format::RegRegImm),
+    Row(Kind::Xori, "xori", 0x1B, Format::RegRegImm),
+    Row(Kind::Ori, "ori", 0x23, Format::RegRegImm),
+    Row(Kind::Li, "li", 0x35, Format::RegLongImm),
+    Row(Kind::Lsli, "lsli", 0x2B, Format::RegRegShift),
+    Row(Kind::Lsri, "lsri", 0x33, Format::RegRegShift),
+    Row(Kind::Asri, "asri", 0x3B, Format::RegRegShift),
+    Row(Kind::Beq, "beq", 0x0F, Format::Branch),
+    Row(Kind::Bne, "bne", 0x2F, Format::Branch),
+    Row(Kind::Blt, "blt", 0x37, Format::Branch),
+    Row(Kind::Bltu, "bltu", 0x17, Format::Branch),
+    Row(Kind::Ble, "ble", 0x3F, Format::Branch),
+    Row(Kind::Bleu, "bleu", 0x1F, Format::Branch),
+    Row(Kind::Lw, "lw", 0x15, Format::Memory),
+    Row(Kind::Lb, "lb", 0x25, Format::Memory),
+    Row(Kind::Lbu, "lbu", 0x05, Format::Memory),
+    Row(Kind::Sw, "sw", 0x1D, Format::Memory),
+    Row(Kind::Sb, "sb", 0x0D, Format::Memory),
+    Row(Kind::Mov, "mov", 0xC0, Format::RegReg),
+    Row(Kind::Add2, "add2", 0x80, Format::RegReg),
+    Row(Kind::Sub2, "sub2", 0x88, Format::RegReg),
+    Row(Kind::And2, "and2", 0x90, Format::RegReg),
+    Row(Kind::Xor2, "xor2", 0x98, Format::RegReg),
+    Row(Kind::Or2, "or2", 0xA0, Format::RegReg),
+    Row(Kind::Lsl2, "lsl2", 0xA8, Format::RegReg),
+    Row(Kind::Lsr2, "lsr2", 0xB0, Format::RegReg),
+    Row(Kind::Asr2, "asr2", 0xB8, Format::RegReg),
+    Row(Kind::Addi2, "addi2", 0x02, Format::RegImm),
+    Row(Kind::Andi2, "andi2", 0x12, Format::RegImm),
+    Row(Kind::Lsi, "lsi", 0x34, Format::RegImm),
+    Row(Kind::Lui, "lui", 0x04, Format::RegImm),
+    Row(Kind::Lsli2, "lsli2", 0x2A, Format::RegShift),
+    Row(Kind::Lsri2, "lsri2", 0x32, Format::RegShift),
+    Row(Kind::Asri2, "asri2", 0x3A, Format::RegShift),
+    Row(Kind::Jalr, "jalr", 0x16, Format::Reg),
+    Row(Kind::Jr, "jr", 0x06, Format::Reg),
+    Row(Kind::Js, "js", 0x0E, Format::Jump),
+    Row(Kind::Jsal, "jsal", 0x1E, Format::Jump),
+    Row(Kind::Lwsp, "lwsp", 0x14, Format::Stack),
+    Row(Kind::Swsp, "swsp", 0x1C, Format::Stack),
+    Row(Kind::Nop, "nop", 0x00, Format::Bare),
 ];
 
 // A number that no kind has.
@@ -127,7 +131,7 @@ impl TryFrom<u8> for Kind {
     #[tactic(auto, unfolding(crate::specs::Kinds::kind_numbered))]
     fn try_from(number: u8) -> Result<Kind, UnknownKind> {
         let place = number.checked_sub(1).ok_or(UnknownKind)?;
-        KINDS.get(usize::from(place)).copied().ok_or(UnknownKind)
+        kind_at(ROWS, place).ok_or(UnknownKind)
     }
 }
 
@@ -139,159 +143,48 @@ impl Kind {
         self as u8
     }
 
-    // The name as it is typed, in lower case: a static text, which a record's `Display` uses as it is. One line for each kind: a table of rows
-    // with name, code and format was tried, and the proof of a look into it did not close, since its names lie at addresses that a proof
-    // cannot write.
+    fn row(self) -> &'static Row
+        ensures { IsRow self result.now }
+    {
+        row_of(ROWS, self)
+    }
+
+    // The name as it is typed, in lower case.
     pub fn name(self) -> &'static str
         ensures { result.now ≡ name self }
     {
-        match self {
-            Kind::Add => "add",
-            Kind::Sub => "sub",
-            Kind::And => "and",
-            Kind::Xor => "xor",
-            Kind::Or => "or",
-            Kind::Lsl => "lsl",
-            Kind::Lsr => "lsr",
-            Kind::Asr => "asr",
-            Kind::Addi => "addi",
-            Kind::Andi => "andi",
-            Kind::Xori => "xori",
-            Kind::Ori => "ori",
-            Kind::Li => "li",
-            Kind::Lsli => "lsli",
-            Kind::Lsri => "lsri",
-            Kind::Asri => "asri",
-            Kind::Beq => "beq",
-            Kind::Bne => "bne",
-            Kind::Blt => "blt",
-            Kind::Bltu => "bltu",
-            Kind::Ble => "ble",
-            Kind::Bleu => "bleu",
-            Kind::Lw => "lw",
-            Kind::Lb => "lb",
-            Kind::Lbu => "lbu",
-            Kind::Sw => "sw",
-            Kind::Sb => "sb",
-            Kind::Mov => "mov",
-            Kind::Add2 => "add2",
-            Kind::Sub2 => "sub2",
-            Kind::And2 => "and2",
-            Kind::Xor2 => "xor2",
-            Kind::Or2 => "or2",
-            Kind::Lsl2 => "lsl2",
-            Kind::Lsr2 => "lsr2",
-            Kind::Asr2 => "asr2",
-            Kind::Addi2 => "addi2",
-            Kind::Andi2 => "andi2",
-            Kind::Lsi => "lsi",
-            Kind::Lui => "lui",
-            Kind::Lsli2 => "lsli2",
-            Kind::Lsri2 => "lsri2",
-            Kind::Asri2 => "asri2",
-            Kind::Jalr => "jalr",
-            Kind::Jr => "jr",
-            Kind::Js => "js",
-            Kind::Jsal => "jsal",
-            Kind::Lwsp => "lwsp",
-            Kind::Swsp => "swsp",
-            Kind::Nop => "nop",
-        }
+        self.row().1
     }
 
-    // The bits of the first byte that name the kind: its low eight, six or five, as the format has it. One line for each kind, as in the
-    // table of the rules.
+    // The bits of the first byte that name the kind: its low eight, six or five, as the format has it.
     pub fn code(self) -> u8
         ensures { result ≡ code self }
     {
-        match self {
-            Kind::Add => 0x01,
-            Kind::Sub => 0x09,
-            Kind::And => 0x11,
-            Kind::Xor => 0x19,
-            Kind::Or => 0x21,
-            Kind::Lsl => 0x29,
-            Kind::Lsr => 0x31,
-            Kind::Asr => 0x39,
-            Kind::Addi => 0x03,
-            Kind::Andi => 0x13,
-            Kind::Xori => 0x1B,
-            Kind::Ori => 0x23,
-            Kind::Li => 0x35,
-            Kind::Lsli => 0x2B,
-            Kind::Lsri => 0x33,
-            Kind::Asri => 0x3B,
-            Kind::Beq => 0x0F,
-            Kind::Bne => 0x2F,
-            Kind::Blt => 0x37,
-            Kind::Bltu => 0x17,
-            Kind::Ble => 0x3F,
-            Kind::Bleu => 0x1F,
-            Kind::Lw => 0x15,
-            Kind::Lb => 0x25,
-            Kind::Lbu => 0x05,
-            Kind::Sw => 0x1D,
-            Kind::Sb => 0x0D,
-            Kind::Mov => 0xC0,
-            Kind::Add2 => 0x80,
-            Kind::Sub2 => 0x88,
-            Kind::And2 => 0x90,
-            Kind::Xor2 => 0x98,
-            Kind::Or2 => 0xA0,
-            Kind::Lsl2 => 0xA8,
-            Kind::Lsr2 => 0xB0,
-            Kind::Asr2 => 0xB8,
-            Kind::Addi2 => 0x02,
-            Kind::Andi2 => 0x12,
-            Kind::Lsi => 0x34,
-            Kind::Lui => 0x04,
-            Kind::Lsli2 => 0x2A,
-            Kind::Lsri2 => 0x32,
-            Kind::Asri2 => 0x3A,
-            Kind::Jalr => 0x16,
-            Kind::Jr => 0x06,
-            Kind::Js => 0x0E,
-            Kind::Jsal => 0x1E,
-            Kind::Lwsp => 0x14,
-            Kind::Swsp => 0x1C,
-            Kind::Nop => 0x00,
-        }
+        self.row().2
     }
 
     // Where the bytes hold the fields.
     pub fn format(self) -> Format
         ensures { result ≡ format self }
     {
-        match self {
-            Kind::Add
-            | Kind::Sub
-            | Kind::And
-            | Kind::Xor
-            | Kind::Or
-            | Kind::Lsl
-            | Kind::Lsr
-            | Kind::Asr => Format::RegRegReg,
-            Kind::Lsli | Kind::Lsri | Kind::Asri => Format::RegRegShift,
-            Kind::Addi | Kind::Andi | Kind::Xori | Kind::Ori => Format::RegRegImm,
-            Kind::Li => Format::RegLongImm,
-            Kind::Beq | Kind::Bne | Kind::Blt | Kind::Bltu | Kind::Ble | Kind::Bleu =>
-                Format::Branch,
-            Kind::Lw | Kind::Lb | Kind::Lbu | Kind::Sw | Kind::Sb => Format::Memory,
-            Kind::Mov
-            | Kind::Add2
-            | Kind::Sub2
-            | Kind::And2
-            | Kind::Xor2
-            | Kind::Or2
-            | Kind::Lsl2
-            | Kind::Lsr2
-            | Kind::Asr2 => Format::RegReg,
-            Kind::Addi2 | Kind::Andi2 | Kind::Lsi | Kind::Lui => Format::RegImm,
-            Kind::Lsli2 | Kind::Lsri2 | Kind::Asri2 => Format::RegShift,
-            Kind::Jalr | Kind::Jr => Format::Reg,
-            Kind::Js | Kind::Jsal => Format::Jump,
-            Kind::Lwsp | Kind::Swsp => Format::Stack,
-            Kind::Nop => Format::Bare,
-        }
+        self.row().3
     }
+}
+
+// The kind in a row of a table, if it has as many.
+#[tactic(auto, using(crate::proofs::Numbered::lent))]
+fn kind_at(rows: &[Row; 50], place: u8) -> Option<Kind>
+    requires { IsTable rows.now }
+    ensures { result ≡ slice_get kinds place }
+{
+    Some(rows.get(usize::from(place))?.0)
+}
+
+// The row of a kind in a table.
+#[tactic(auto, using(crate::proofs::Numbered::row_at))]
+fn row_of(rows: &'static [Row; 50], kind: Kind) -> &'static Row
+    requires { IsTable rows.now }
+    ensures { IsRow kind result.now }
+{
+    &rows[usize::from(kind.number()) - 1]
 }

@@ -149,7 +149,7 @@ impl Kind {
         row_of(ROWS, self)
     }
 
-    // The name as it is typed, in lower case.
+    // The name as it is typed, in lower case: a static text, which a record's `Display` uses as it is.
     pub fn name(self) -> &'static str
         ensures { result.now ≡ name self }
     {

@@ -1,4 +1,5 @@
-ghost use Rattle.std.specs.Prelude.{◌≡◌, ℕ, ◌++◌, length};
+ghost use Rattle.std.specs.Prelude.{◌≡◌, ℕ, ◌++◌, ◌<◌, ◌≤◌, length, nat_lt, IfOk, IfErr};
+ghost use Rattle.memory.specs.declared.StoreFault.TheVariants.{Outside};
 ghost use Rattle.memory.specs.Memory.{memory_of};
 ghost use Rattle.stores.specs.Cut.{cut, cut_bounded};
 ghost use Rattle.stores.specs.Joints.{joined, joined_cells, joined_trimmed};
@@ -33,6 +34,18 @@ impl<S: Store, R: ReadingEnd> SplitMap<S, R> {
         let SplitMap { lower, upper } = self;
         (lower, upper)
     }
+
+    // Is an address the store's? 41 outside the size.
+    fn is_lower(&self, address: u32) -> Result<bool, StoreFault>
+        ensures ok { IfOk result (λ is. (address < length (cut (S.cells self.now.lower ++ R.cells self.now.upper))) × (is ≡ nat_lt address (length (S.cells self.now.lower)))) }
+        ensures err { IfErr result (λ e. (length (cut (S.cells self.now.lower ++ R.cells self.now.upper)) ≤ address) × (e ≡ Outside address)) }
+    {
+        if address < self.size() {
+            Ok(address < self.lower.size())
+        } else {
+            Err(StoreFault::Outside(address))
+        }
+    }
 }
 
 impl<S: Store, R: ReadingEnd> ReadingEnd for SplitMap<S, R> {
@@ -59,23 +72,19 @@ impl<S: Store, R: ReadingEnd> Store for SplitMap<S, R> {
 
     #[tactic(auto, using(crate::proofs::Joints::uppers))]
     fn protected(&self, address: u32) -> Result<bool, StoreFault> {
-        if address < self.lower.size() {
+        if self.is_lower(address)? {
             self.lower.protected(address)
-        } else if address < self.size() {
-            Ok(true)
         } else {
-            Err(StoreFault::Outside(address))
+            Ok(true)
         }
     }
 
     #[tactic(auto, using(crate::proofs::Joints::uppers))]
     fn write(&mut self, address: u32, cell: Cell) -> Result<(), StoreFault> {
-        if address < self.lower.size() {
+        if self.is_lower(address)? {
             self.lower.write(address, cell)
-        } else if address < self.size() {
-            Err(StoreFault::Protected(address))
         } else {
-            Err(StoreFault::Outside(address))
+            Err(StoreFault::Protected(address))
         }
     }
 

@@ -1,20 +1,12 @@
-use Rattle.std.proofs.Common.{sym, ap, ◌∙◌, rules}
+use Rattle.std.proofs.Common.{ap, ◌∙◌, rules}
 use Rattle.memory.specs.Memory.{memory_of}
 use Rattle.stores.specs.Joints.{joined}
 use Rattle.stores.specs.Protection.{everything}
-use Rattle.stores.proofs.Joints.{answer_below, written_below}
+use Rattle.stores.proofs.Joints.{written_below}
 use Rattle.stores.proofs.split.SplitMapStore.write.Goals as goal
 
-pub returns-then-address-size-clause-answer : goal.returns-then-address-size-clause-answer
-returns-then-address-size-clause-answer g c =
-    let lower = c.args.self.now.lower in
-    let upper = memory_of (g.R.ReadingEnd.cells c.args.self.now.upper) everything in
-    let few = g.S.ReadingEnd.bounded lower in
-    let same = g.met.S.Store.same_cells lower in
-    c.write.ensures.answer ∙ sym (answer_below (g.S.Store.memory lower) upper c.args.address (search rules) (search rules))
-
-pub returns-then-address-size-clause-memory : goal.returns-then-address-size-clause-memory
-returns-then-address-size-clause-memory g c =
+pub returns-then-branch-clause-memory : goal.returns-then-branch-clause-memory
+returns-then-branch-clause-memory g c =
     let lower = c.args.self.now.lower in
     let upper = memory_of (g.R.ReadingEnd.cells c.args.self.now.upper) everything in
     let few = g.S.ReadingEnd.bounded lower in

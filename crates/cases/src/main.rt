@@ -1,7 +1,7 @@
 // Tries the instruction set on a table of cases, and prints what each gives.
 #![tactic(auto)]
 
-use disassembly::listing;
+use disassembly::{Hex, listing};
 use isa::{Record, decode, decode_encoded, encode_decoded, lookup};
 use std::io::Write;
 use std::{fmt, io};
@@ -17,19 +17,6 @@ impl fmt::Display for Row {
         for low in 0..16u8 {
             let name = lookup((high % 16) * 16 + low).map_or("-", |kind| kind.name());
             write!(f, " {name}")?;
-        }
-        Ok(())
-    }
-}
-
-// Bytes in hexadecimal, each after a blank.
-#[derive(Clone, Copy)]
-struct Hex<'a>(&'a [u8]);
-
-impl fmt::Display for Hex<'_> {
-    fn fmt<W: fmt::Write>(&self, f: &mut fmt::Formatter<W>) -> fmt::Result {
-        for b in self.0 {
-            write!(f, " {b:02X}")?;
         }
         Ok(())
     }

@@ -14,7 +14,7 @@ pub const LIMIT: usize = 65_536;
 
 // Each byte as a blank and two hexadecimal digits.
 #[derive(Clone, Copy)]
-struct Hex<'a>(&'a [u8]);
+pub struct Hex<'a>(pub &'a [u8]);
 
 impl fmt::Display for Hex<'_> {
     ghost output = { λ x. Some (hexes x.0.now) };

@@ -58,5 +58,5 @@ pub fn eleven_bits(low: u8, high: u8) -> i16
 pub fn even_offset(low: u8, high: u8) -> i16
     ensures { result ≡ pos ((low / 64 * 16 + high / 16) * 2) }
 {
-    i16::from(low / 64 * 16 + high / 16) * 2
+    i16::from(packed::<4>(low / 64, high / 16)) * 2
 }

@@ -29,7 +29,7 @@ impl TryFrom<u8> for RegisterNumber {
 }
 
 impl RegisterNumber {
-    // 0 to 15.
+    // 0 to 15. The field of this one type, as an accessor.
     pub fn number(self) -> u8
         ensures is { result ≡ self.number }
         ensures small { result < 16 }

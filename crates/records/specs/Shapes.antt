@@ -7,30 +7,26 @@ use Rattle.opcodes.specs.declared.format.Format.TheVariants.{RegRegReg, RegRegSh
 use Rattle.records.specs.declared.shape.Bounds.{Bounds}
 use Rattle.records.specs.declared.shape.Shape.{Shape}
 
--- immediates from the least to the greatest
-abbrev pub all : ℤ → ℤ → Bounds
-all l h = record { lowest = l; highest = h; even = false }
-
-abbrev pub even_ones : ℤ → ℤ → Bounds
-even_ones l h = record { lowest = l; highest = h; even = true }
+abbrev pub bounds : ℤ → ℤ → Bool → Bounds
+bounds l h e = record { lowest = l; highest = h; even = e }
 
 abbrev pub entry : ℕ → Option Bounds → Shape
 entry n i = record { registers = n; immediate = i }
 
--- how many of the registers a, b, c a format has, and which immediates, if it has one
+-- how many of the registers a, b, c a format has, and of its immediate, if it has one, the least and the greatest and whether it has to be even
 abbrev pub shape : Format → Shape
 shape RegRegReg = entry 3 None
-shape RegRegShift = entry 2 (Some (all (pos 0) (pos 15)))
-shape RegRegImm = entry 2 (Some (all (negsuc 511) (pos 511)))
-shape RegLongImm = entry 1 (Some (all (negsuc 511) (pos 511)))
-shape Branch = entry 2 (Some (all (negsuc 511) (pos 511)))
-shape Memory = entry 2 (Some (all (negsuc 511) (pos 511)))
+shape RegRegShift = entry 2 (Some (bounds (pos 0) (pos 15) false))
+shape RegRegImm = entry 2 (Some (bounds (negsuc 511) (pos 511) false))
+shape RegLongImm = entry 1 (Some (bounds (negsuc 511) (pos 511) false))
+shape Branch = entry 2 (Some (bounds (negsuc 511) (pos 511) false))
+shape Memory = entry 2 (Some (bounds (negsuc 511) (pos 511) false))
 shape RegReg = entry 2 None
-shape RegImm = entry 1 (Some (all (negsuc 31) (pos 31)))
-shape RegShift = entry 1 (Some (all (pos 0) (pos 15)))
+shape RegImm = entry 1 (Some (bounds (negsuc 31) (pos 31) false))
+shape RegShift = entry 1 (Some (bounds (pos 0) (pos 15) false))
 shape Reg = entry 1 None
-shape Jump = entry 0 (Some (all (negsuc 1023) (pos 1023)))
-shape Stack = entry 1 (Some (even_ones (pos 0) (pos 126)))
+shape Jump = entry 0 (Some (bounds (negsuc 1023) (pos 1023) false))
+shape Stack = entry 1 (Some (bounds (pos 0) (pos 126) true))
 shape Bare = entry 0 None
 
 -- each register that the format does not use is zero

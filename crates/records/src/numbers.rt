@@ -1,4 +1,4 @@
-// The numbers that a record is made of, besides its kind.
+// The numbers that a record is made of, besides its kind: untested yet, and so a type of their own beside the operands that they may be.
 #[derive(Clone, Copy)]
 pub(crate) struct Numbers {
     pub(crate) a: u8,

@@ -1,6 +1,6 @@
 // What a record of each format may hold.
 ghost use Rattle.std.specs.Prelude.{◌≡◌};
-ghost use Rattle.records.specs.Shapes.{all, even_ones, entry, shape, unused_registers_zero, unused_zero, in_range, even_enough};
+ghost use Rattle.records.specs.Shapes.{entry, shape, unused_registers_zero, unused_zero, in_range, even_enough};
 
 use crate::numbers::Numbers;
 use opcodes::Format;
@@ -13,27 +13,37 @@ struct Bounds {
     even: bool,
 }
 
-impl Bounds {
-    const fn all(lowest: i16, highest: i16) -> Bounds
-        ensures { result ≡ all lowest highest }
-    {
-        Bounds {
-            lowest,
-            highest,
-            even: false,
-        }
-    }
+// Of shifts, and of immediates of ten, six and eleven bits.
+const SHIFT: Bounds = Bounds {
+    lowest: 0,
+    highest: 15,
+    even: false,
+};
 
-    const fn even_ones(lowest: i16, highest: i16) -> Bounds
-        ensures { result ≡ even_ones lowest highest }
-    {
-        Bounds {
-            lowest,
-            highest,
-            even: true,
-        }
-    }
-}
+const TEN_BITS: Bounds = Bounds {
+    lowest: -512,
+    highest: 511,
+    even: false,
+};
+
+const SIX_BITS: Bounds = Bounds {
+    lowest: -32,
+    highest: 31,
+    even: false,
+};
+
+const ELEVEN_BITS: Bounds = Bounds {
+    lowest: -1024,
+    highest: 1023,
+    even: false,
+};
+
+// Of the offsets of the stack forms.
+const STACK: Bounds = Bounds {
+    lowest: 0,
+    highest: 126,
+    even: true,
+};
 
 // How many of the registers a, b, c there are, and the bounds of the immediate if there is one.
 #[derive(Clone, Copy)]
@@ -57,17 +67,17 @@ impl Shape {
     {
         match format {
             Format::RegRegReg => Shape::new(3, None),
-            Format::RegRegShift => Shape::new(2, Some(Bounds::all(0, 15))),
-            Format::RegRegImm => Shape::new(2, Some(Bounds::all(-512, 511))),
-            Format::RegLongImm => Shape::new(1, Some(Bounds::all(-512, 511))),
-            Format::Branch => Shape::new(2, Some(Bounds::all(-512, 511))),
-            Format::Memory => Shape::new(2, Some(Bounds::all(-512, 511))),
+            Format::RegRegShift => Shape::new(2, Some(SHIFT)),
+            Format::RegRegImm => Shape::new(2, Some(TEN_BITS)),
+            Format::RegLongImm => Shape::new(1, Some(TEN_BITS)),
+            Format::Branch => Shape::new(2, Some(TEN_BITS)),
+            Format::Memory => Shape::new(2, Some(TEN_BITS)),
             Format::RegReg => Shape::new(2, None),
-            Format::RegImm => Shape::new(1, Some(Bounds::all(-32, 31))),
-            Format::RegShift => Shape::new(1, Some(Bounds::all(0, 15))),
+            Format::RegImm => Shape::new(1, Some(SIX_BITS)),
+            Format::RegShift => Shape::new(1, Some(SHIFT)),
             Format::Reg => Shape::new(1, None),
-            Format::Jump => Shape::new(0, Some(Bounds::all(-1024, 1023))),
-            Format::Stack => Shape::new(1, Some(Bounds::even_ones(0, 126))),
+            Format::Jump => Shape::new(0, Some(ELEVEN_BITS)),
+            Format::Stack => Shape::new(1, Some(STACK)),
             Format::Bare => Shape::new(0, None),
         }
     }

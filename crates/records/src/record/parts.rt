@@ -12,7 +12,8 @@ impl Record {
         self.kind
     }
 
-    // The registers in the order of the assembler text; x0 where the kind has fewer.
+    // The registers in the order of the assembler text; x0 where the kind has fewer, since a record holds zero in every field that its format
+    // does not use.
     pub fn a(self) -> RegisterNumber
         ensures { result ≡ self.operands.a }
     {
@@ -31,7 +32,7 @@ impl Record {
         self.operands.c
     }
 
-    // The immediate; 0 where the kind has none.
+    // The immediate; likewise 0 where the kind has none.
     pub fn imm(self) -> i16
         ensures { result ≡ self.operands.imm }
     {

@@ -12,7 +12,8 @@ pub struct Block<'a> {
     pub label: u8,
 }
 
-// Are all the addresses inside, as many as the count, in a row from the first?
+// Are all the addresses inside, as many as the count, in a row from the first? By numbers and not a `Block`, since the questions ask nothing of its
+// bytes and its label.
 #[tactic(auto, using(crate::proofs::Failing::outsides))]
 fn check_inside<R: ReadingEnd>(end: &R, first: u32, count: usize) -> Result<(), StoreFault>
     ensures { result ≡ all_inside (R.cells end.now) first count (Ok tt) }

@@ -42,7 +42,8 @@ impl Operands {
         Operands::of_one(RegisterNumber::zero(), imm)
     }
 
-    // The operands that the bytes of a format hold, unless they break a zero; the code in the first byte is not looked at.
+    // The operands that the bytes of a format hold, unless they break a zero; the code in the first byte is not looked at. By its bytes and not an
+    // `Image`: top is 0 where there are two.
     pub(crate) fn read(format: Format, low: u8, high: u8, top: u8) -> Option<Operands>
         ensures { option_map values result ≡ read format (low / 2 ^ code_width format) high top }
     {

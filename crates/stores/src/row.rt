@@ -1,4 +1,5 @@
-// A row of cells none of which is protected. At most the first 65,536 of them can be addressed.
+// A row of cells none of which is protected. At most the first 65,536 of them can be addressed. Functions and not a type, since one store has its
+// cells lent and the other holds them.
 ghost use Rattle.std.specs.Prelude.{◌≡◌, length};
 ghost use Rattle.memory.specs.Memory.{memory_of, looked, asked, write_answer, written};
 ghost use Rattle.stores.specs.Cut.{cut, rest};

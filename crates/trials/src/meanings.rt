@@ -1,4 +1,4 @@
-// What each store means, as code in another crate finds it.
+// What each store means, as code in another crate finds it. The three for split maps state three contracts, and so are not one function over the call.
 ghost use Rattle.std.specs.Prelude.{◌≡◌, replicate};
 ghost use Rattle.memory.specs.Memory.{memory_of, blank, looked, asked, write_answer, written};
 ghost use Rattle.stores.specs.Cut.{cut};

@@ -3,10 +3,8 @@ use Rattle.std.proofs.Common.{◌≡◌, ℕ, suc, ◌-◌, ◌<◌, Bool, true,
 use lib.Seq.{take-append_seam}
 use Rattle.std.proofs.lemmas.Bool.{cond-true}
 use Rattle.std.specs.Result.{MatchResult, IsOk}
-use Rattle.isa.specs.declared.refusal.CodecError.TheVariants.{Decode}
 use Rattle.records.specs.declared.record.Record.{Record}
 use Rattle.records.specs.declared.refusal.DecodeError.{DecodeError}
-use Rattle.records.specs.declared.refusal.EncodeError.{EncodeError}
 use Rattle.records.specs.declared.refusal.EncodeError.TheVariants.{NoRoom}
 use Rattle.records.specs.Codec.{Decoded, gives, decoded, encoded, laid_answer, laid_over}
 use Rattle.records.specs.Instructions.{Instruction, Sound}
@@ -23,16 +21,9 @@ room : (b : Bool) (n m : ℕ) → cond b (Ok n) (Err NoRoom) ≡ Ok m → b ≡ 
 room true n m e = refl
 room false n m e = absurd cc
 
-no_room : (b : Bool) (n : ℕ) (e : EncodeError) (x : Instruction) → cond b (Ok n) (Err NoRoom) ≡ Err e → Err e ≡ cond b (Ok x) (Err NoRoom)
-no_room true n e x h = absurd cc
-no_room false n e x h = let d : NoRoom ≡ e = cc in ap (λ (v : EncodeError). Err v) (sym d)
-
 module _ (x : Instruction) (before : List ℕ) where
   pub through_laid : (n : ℕ) → laid_answer (encoded x) before ≡ Ok n → Ok x ≡ through x before
   through_laid n e = sym (cond-true (leb (length (encoded x)) (length before)) (Ok x) (Err NoRoom) (room _ (length (encoded x)) n e))
-
-  pub through_refused : (e : EncodeError) → laid_answer (encoded x) before ≡ Err e → Err e ≡ through x before
-  through_refused e h = no_room (leb (length (encoded x)) (length before)) (length (encoded x)) e x h
 
   -- what stands in the buffer decodes to the instruction
   pub comes_back : Sound x → (n : ℕ) (after : List ℕ) → laid_answer (encoded x) before ≡ Ok n → after ≡ laid_over (encoded x) before → decoded after ≡ gives (Ok x) (drop (length (encoded x)) before)
@@ -48,6 +39,9 @@ not_refused holds s x rest d (Ok p) h = search rules
 not_refused holds s x rest d (Err e) h =
     let never : Err e ≡ Ok x = ap (λ (v : Decoded). v.answer) (sym h ∙ d) in
     absurd cc
+
+-- what proves that a record comes back
+pub ruleset there_and_back = (undoes, sound, comes_back, not_refused, through_laid)
 
 -- the elements of a byte slice are bytes
 pub bytes_from : (s : List ℕ) → ((i : ℕ) → get_or s i 0 < 256) → Bytes s
@@ -71,10 +65,3 @@ module _ (s : List ℕ) (x : Instruction) (rest : List ℕ) (bytes : Bytes s) (e
   copied_bytes before =
       ap (λ (l : List ℕ). laid_over l before) own_bytes
       ∙ sym (ap (λ (d : Decoded). copied_over d.answer s before) e)
-
-module _ (s : List ℕ) (e : DecodeError) (h : (decoded s).answer ≡ Err e) (before : List ℕ) where
-  pub undecoded : Err (Decode e) ≡ copied_answer (decoded s).answer s before
-  undecoded = sym (ap (λ (a : Result Instruction DecodeError). copied_answer a s before) h)
-
-  pub untouched : before ≡ copied_over (decoded s).answer s before
-  untouched = sym (ap (λ (a : Result Instruction DecodeError). copied_over a s before) h)

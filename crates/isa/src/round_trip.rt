@@ -9,7 +9,7 @@ use crate::refusal::CodecError;
 use records::{EncodeError, Record, decode};
 
 // Encodes a record at the start of a buffer and decodes what then stands there: the record comes back.
-#[tactic(auto, using(crate::proofs::Round::undoes))]
+#[tactic(auto, using(crate::proofs::Trips::there_and_back))]
 pub fn decode_encoded(record: Record, buffer: &mut [u8]) -> Result<Record, EncodeError>
     ensures answer { outcome result ≡ through (meaning «record») buffer.old }
     ensures after { buffer.new ≡ laid_over (encoded (meaning «record»)) buffer.old }

@@ -24,7 +24,3 @@ unfolding legal
 taken_legal f a b c i x e =
     let p = all_passed (registers a b c) (unused_zero (shape f) a b c i) (in_range (shape f) i) (even_enough (shape f) i) OddOffset OutOfRange UnusedField NoSuchRegister (fields a b c i) x e in
     subst (Lawful f) p.0 p.1
-
--- fields that pass each question are taken, whatever way they are held
-pub taken_passed : (f : Format) (a b c : ℕ) (i : ℤ) {x y z : ℕ} {j : ℤ} → x ≡ a → y ≡ b → z ≡ c → j ≡ i → registers a b c ≡ true → unused_zero (shape f) a b c i ≡ true → in_range (shape f) i ≡ true → even_enough (shape f) i ≡ true → Ok (fields x y z j) ≡ taken f a b c i
-taken_passed f a b c i p q r s t u v w = simp (p, q, r, s, t, u, v, w)

@@ -1,3 +1,4 @@
+pub mod Equality
 pub mod Formats
 pub mod Kinds
 pub mod Laws

@@ -1,13 +1,14 @@
 // The fifty kinds of instruction, and what each is: its number, its name as typed, its code and its format.
-ghost use Rattle.std.specs.Prelude.{◌≡◌, slice_get};
+ghost use Rattle.std.specs.Prelude.{◌≡◌, ◌==◌, Decides, slice_get};
 ghost use Rattle.std.specs.Result.{result_ok};
 ghost use Rattle.opcodes.specs.Kinds.{number, name, code, format, kinds, kind_numbered};
 ghost use Rattle.opcodes.specs.Rows.{IsRow, IsTable};
+ghost use Rattle.opcodes.specs.Equality.{equal_numbers};
 
 use crate::format::Format;
 
 // In the order of their numbers.
-#[derive(Clone, Copy, PartialEq, Eq, Debug)]
+#[derive(Clone, Copy, Eq, Debug)]
 pub enum Kind {
     Add = 1,
     Sub,
@@ -117,6 +118,21 @@ const ROWS: &[Row; 50] = &[
     Row(Kind::Swsp, "swsp", 0x1C, Format::Stack),
     Row(Kind::Nop, "nop", 0x00, Format::Bare),
 ];
+
+// By hand, since the derived one says neither to callers nor to generic code that it compares the numbers.
+impl PartialEq for Kind {
+    ghost eq = { λ x y. number x == number y };
+
+    ghost laws = { equal_numbers };
+
+    // Kinds are equal where they are the same kind.
+    fn eq(&self, other: &Kind) -> bool
+        ensures value { result ≡ (number self.now == number other.now) }
+        ensures same { Decides result (self.now ≡ other.now) }
+    {
+        *self as u8 == *other as u8
+    }
+}
 
 // A number that no kind has.
 #[derive(Clone, Copy, Debug, PartialEq, Eq)]

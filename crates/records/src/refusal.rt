@@ -63,18 +63,24 @@ impl DecodeError {
     {
         self as u8
     }
+
+    // What it means, in words: a static text, for callers with nothing to write to.
+    pub fn message(self) -> &'static str
+        ensures { result.now ≡ decode_message self }
+    {
+        match self {
+            DecodeError::Empty => "no instruction",
+            DecodeError::CutShort => "instruction cut short",
+            DecodeError::Undefined => "undefined instruction",
+        }
+    }
 }
 
-// What it means, in words.
 impl fmt::Display for DecodeError {
     ghost output = { λ e. Some (decode_message e) };
 
     fn fmt<W: fmt::Write>(&self, f: &mut fmt::Formatter<W>) -> fmt::Result {
-        f.write_str(match self {
-            DecodeError::Empty => "no instruction",
-            DecodeError::CutShort => "instruction cut short",
-            DecodeError::Undefined => "undefined instruction",
-        })
+        f.write_str(self.message())
     }
 }
 

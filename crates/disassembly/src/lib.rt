@@ -1,16 +1,26 @@
 // The listing of a filter: a line for each instruction, with its address, its bytes and its text.
 #![tactic(auto)]
 
-ghost use Rattle.std.specs.Prelude.{◌≡◌, Some, IfOk, string_bytes};
+ghost use Rattle.std.specs.Prelude.{◌≡◌, ◌<◌, Some, IfOk, string_bytes};
+ghost use Rattle.columns.specs.Columns.{padded};
 ghost use Rattle.records.specs.Records.{meaning};
-ghost use Rattle.disassembly.specs.Listings.{hexes, line, refusal_line, listing, ShowsWhatWasEncoded};
+ghost use Rattle.disassembly.specs.Listings.{hex_digit, hexes, line, refusal_line, listing, ShowsWhatWasEncoded};
 
+use columns::justify;
 use isa::{DecodeError, Record, decode};
 use std::alloc::{AllocError, Global};
-use std::fmt;
+use std::{fmt, str};
 
 // The most bytes that a filter has.
 pub const LIMIT: usize = 65_536;
+
+// The upper-case hexadecimal digit of a number below 16.
+fn hex_digit(n: u8) -> u8
+    requires { n < 16 }
+    ensures { result ≡ hex_digit n }
+{
+    if n < 10 { b'0' + n } else { b'A' + (n - 10) }
+}
 
 // Each byte as a blank and two hexadecimal digits.
 #[derive(Clone, Copy)]
@@ -21,9 +31,31 @@ impl fmt::Display for Hex<'_> {
 
     fn fmt<W: fmt::Write>(&self, f: &mut fmt::Formatter<W>) -> fmt::Result {
         for &b in self.0 {
-            write!(f, " {b:02X}")?;
+            let digits = [b' ', hex_digit(b / 16), hex_digit(b % 16)];
+            // With no test for UTF-8: that a blank and digits are a text is proved.
+            f.write_str(unsafe { str::from_utf8_unchecked(&digits) })?;
         }
         Ok(())
+    }
+}
+
+// An address, right-justified in five columns.
+#[derive(Clone, Copy)]
+struct Address(usize);
+
+impl fmt::Display for Address {
+    ghost output = { λ x. Some (padded 5 x.0) };
+
+    #[tactic(auto, using(crate::proofs::Shown::no_blanks))]
+    fn fmt<W: fmt::Write>(&self, f: &mut fmt::Formatter<W>) -> fmt::Result {
+        let Address(at) = *self;
+        let mut field = [0; 5];
+        match justify(&mut field, at as u64) {
+            // With no test for UTF-8: that blanks and figures are a text is proved.
+            Ok(()) => f.write_str(unsafe { str::from_utf8_unchecked(&field) }),
+            // more figures than columns
+            Err(_) => write!(f, "{at}"),
+        }
     }
 }
 
@@ -38,7 +70,7 @@ struct Line<'a> {
 impl fmt::Display for Line<'_> {
     ghost output = { λ x. Some (line x.at x.bytes.now (meaning x.instruction)) };
 
-    #[tactic(auto, using(crate::proofs::Shown::five_columns), unfolding(crate::specs::Listings::line))]
+    #[tactic(auto, unfolding(crate::specs::Listings::line))]
     fn fmt<W: fmt::Write>(&self, f: &mut fmt::Formatter<W>) -> fmt::Result {
         let Line {
             at,
@@ -47,7 +79,7 @@ impl fmt::Display for Line<'_> {
         } = *self;
         // blanks in the place of a third byte
         let gap = if bytes.len() == 2 { "   " } else { "" };
-        writeln!(f, "{at:5} {}{gap}  {instruction}", Hex(bytes))
+        writeln!(f, "{} {}{gap}  {instruction}", Address(at), Hex(bytes))
     }
 }
 
@@ -61,10 +93,10 @@ struct RefusalLine {
 impl fmt::Display for RefusalLine {
     ghost output = { λ x. Some (refusal_line x.at x.refusal) };
 
-    #[tactic(auto, using(crate::proofs::Shown::five_columns), unfolding(crate::specs::Listings::refusal_line))]
+    #[tactic(auto, unfolding(crate::specs::Listings::refusal_line))]
     fn fmt<W: fmt::Write>(&self, f: &mut fmt::Formatter<W>) -> fmt::Result {
         let RefusalLine { at, refusal } = *self;
-        writeln!(f, "{at:5}  {} {refusal}", refusal.number())
+        writeln!(f, "{}  {} {refusal}", Address(at), refusal.number())
     }
 }
 

@@ -1,9 +1,15 @@
 -- A list that is cut.
-use Rattle.std.proofs.Common.{◌≡◌, ℕ, ◌<◌, ◌≤◌, min, List, ◌++◌, length, get_or, take, set, ap, ◌∙◌, arith, length-append, length-take}
+use Rattle.std.proofs.Common.{◌≡◌, ℕ, zero, suc, ◌<◌, ◌≤◌, min, List, [], ◌∷◌, ◌++◌, length, get_or, take, set, refl, ap, ◌∙◌, arith, length-append, length-take}
 use Rattle.std.proofs.lemmas.List.{take_min, get_or-take, drop-set-lt, take_all, take-append-le, take-take}
-use Rattle.std.proofs.Math.Seq.{take-set-lt}
 use Rattle.stores.specs.Cut.{cut, rest}
 use Rattle.memory.specs.Memory.{most_cells}
+
+-- an element set in a list, and in what is taken of it
+take_of_set : {X : Type 0} (n : ℕ) (xs : List X) (a : ℕ) (y : X) → take n (set xs a y) ≡ set (take n xs) a y
+take_of_set zero xs a y = refl
+take_of_set (suc n) [] a y = refl
+take_of_set (suc n) (x ∷ xs) zero y = refl
+take_of_set (suc n) (x ∷ xs) (suc a) y = ap (λ r. x ∷ r) (take_of_set n xs a y)
 
 -- how many are left,
 pub cut_length : {X : Type 0} (xs : List X) → length (cut xs) ≡ min most_cells (length xs)
@@ -16,9 +22,9 @@ unfolding cut
 cut_at xs a d h = get_or-take most_cells xs a d h
 
 -- with one of them set,
-pub cut_set : {X : Type 0} (xs : List X) (a : ℕ) (y : X) → a < most_cells → cut (set xs a y) ≡ set (cut xs) a y
+pub cut_set : {X : Type 0} (xs : List X) (a : ℕ) (y : X) → cut (set xs a y) ≡ set (cut xs) a y
 unfolding cut
-cut_set xs a y h = take-set-lt most_cells xs a y h
+cut_set xs a y = take_of_set most_cells xs a y
 
 -- and those past the cut, with one set before it
 pub rest_set : {X : Type 0} (xs : List X) (a : ℕ) (y : X) → a < most_cells → rest (set xs a y) ≡ rest xs
@@ -39,6 +45,10 @@ uncut xs few = take_all most_cells xs few
 pub cut_front : {X : Type 0} (xs ys : List X) → length xs ≤ most_cells → take (length xs) (cut (xs ++ ys)) ≡ xs
 unfolding cut
 cut_front xs ys few = take-take (length xs) most_cells (xs ++ ys) few ∙ take-append-le (length xs) xs ys (omega arith) ∙ take_all (length xs) xs (omega arith)
+
+-- an address of the first list is one of both, cut
+pub front_inside : {X : Type 0} (xs ys : List X) (a : ℕ) → length xs ≤ most_cells → a < length xs → a < length (cut (xs ++ ys))
+front_inside xs ys a few h = omega (arith, cut_length (xs ++ ys), length-append xs ys)
 
 pub ruleset cuts = (cut_length, cut_at, cut_set, rest_set)
 

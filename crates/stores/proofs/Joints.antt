@@ -84,28 +84,28 @@ module _ (lower upper : Memory) (a : ℕ) where
 
 -- a cell set in one part is that cell set in the whole
 module _ (lower upper : Memory) (a : ℕ) (c : Cell) where
-  set_below : a < most_cells → a < length lower.cells → joined (holding lower (set lower.cells a c)) upper ≡ holding (joined lower upper) (set (joined lower upper).cells a c)
-  set_below addressed below =
+  set_below : a < length lower.cells → joined (holding lower (set lower.cells a c)) upper ≡ holding (joined lower upper) (set (joined lower upper).cells a c)
+  set_below below =
       let whole = lower.cells ++ upper.cells in
-      rw (length-set lower.cells a c, ← set-append_left lower.cells upper.cells a c below, cut_set whole a c addressed)
+      rw (length-set lower.cells a c, ← set-append_left lower.cells upper.cells a c below, cut_set whole a c)
       (set_holding (cut whole) (across (length lower.cells) lower.protected upper.protected) a c)
 
-  set_above : a < most_cells → length lower.cells ≤ a → joined lower (holding upper (set upper.cells (a - length lower.cells) c)) ≡ holding (joined lower upper) (set (joined lower upper).cells a c)
-  set_above addressed above =
+  set_above : length lower.cells ≤ a → joined lower (holding upper (set upper.cells (a - length lower.cells) c)) ≡ holding (joined lower upper) (set (joined lower upper).cells a c)
+  set_above above =
       let whole = lower.cells ++ upper.cells in
-      rw (← set-append_right lower.cells upper.cells (length lower.cells) a c refl above, cut_set whole a c addressed)
+      rw (← set-append_right lower.cells upper.cells (length lower.cells) a c refl above, cut_set whole a c)
       (set_holding (cut whole) (across (length lower.cells) lower.protected upper.protected) a c)
 
   pub written_below : length lower.cells ≤ most_cells → a < length lower.cells → joined (written lower a c) upper ≡ written (joined lower upper) a c
   written_below few below =
       let same = answer_below lower upper a few below in
-      let put = set_below (omega arith) below in
+      let put = set_below below in
       grind arith
 
   written_above : a < most_cells → length lower.cells ≤ a → joined lower (written upper (a - length lower.cells) c) ≡ written (joined lower upper) a c
   written_above addressed above =
       let same = answer_above lower upper a addressed above in
-      let put = set_above addressed above in
+      let put = set_above above in
       grind arith
 
 -- a reading end above a store, all of whose addresses are protected: from the joint on nothing is written

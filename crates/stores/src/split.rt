@@ -35,13 +35,14 @@ impl<S: Store, R: ReadingEnd> SplitMap<S, R> {
         (lower, upper)
     }
 
-    // Is an address the store's? 41 outside the size.
+    // Is an address the store's? 41 outside the size. The reading end is asked nothing for an address below the joint.
     fn is_lower(&self, address: u32) -> Result<bool, StoreFault>
         ensures ok { IfOk result (λ is. (address < length (cut (S.cells self.now.lower ++ R.cells self.now.upper))) × (is ≡ nat_lt address (length (S.cells self.now.lower)))) }
         ensures err { IfErr result (λ e. (length (cut (S.cells self.now.lower ++ R.cells self.now.upper)) ≤ address) × (e ≡ Outside address)) }
     {
-        if address < self.size() {
-            Ok(address < self.lower.size())
+        let is_lower = address < self.lower.size();
+        if is_lower || address < self.size() {
+            Ok(is_lower)
         } else {
             Err(StoreFault::Outside(address))
         }
